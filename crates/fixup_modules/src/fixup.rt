@@ -168,6 +168,15 @@ fn append_call(
     }
 }
 
+/// One more action. After a refusal there are those that were there.
+fn put_user(users: &mut Vec<StartAction>, action: StartAction) -> Result<(), AllocError>
+    ensures ok { OnOk result (users.new.items ≡ users.old.items ++ action ∷ []) }
+    ensures err { OnErr result (users.new.items ≡ users.old.items) }
+{
+    users.push(action)?;
+    Ok(())
+}
+
 /// A call of the hook is put behind all that is done. There is room for it.
 fn put_finish(users: &mut Vec<StartAction>, hook: u32)
     requires { vec_len users.old < vec_capacity users.old }
@@ -414,10 +423,8 @@ impl FixupModule {
         ensures err { OnErr result (self.new ≡ self.old) }
         ensures cause { IfErr result (λ e. e ≡ faults.Memory) }
     {
-        match self.users.push(action) {
-            Ok(()) => Ok(()),
-            Err(_) => Err(ShimFault::Memory),
-        }
+        put_user(&mut self.users, action)?;
+        Ok(())
     }
 
     /// Lets the function that main exports under this name be called at the start, after what was

@@ -31,10 +31,10 @@ use Rattle.core_runs.specs.declared.bracket.Bracketed.{Bracketed}
 use Rattle.standard_kinds.specs.declared.kinds.StringEncoding.{StringEncoding}
 use Rattle.wit_data.specs.declared.worlds.WorldKey.TheVariants as keys
 use Rattle.world_values.specs.CoreExports.{lifted_function, implemented_by, implementations}
-use Rattle.comp_links.specs.Links.{if_needed, options_in, lower_needs, import_encoding, name_of_user, export_at, realloc_of, lower_realloc, lower_options, core_name, destructor_of, export_of, link_of_cell, link_of_intrinsic, link_of, link_in, link_at}
+use Rattle.comp_links.specs.Links.{if_needed, options_in, lower_needs, import_encoding, name_of_user, export_at, realloc_of, lower_realloc, lower_options, core_name, destructor_of, export_of, link_of_cell, link_of_intrinsic, module_of, link_of, link_in, link_at}
 use Rattle.comp_links.specs.Lists.{RequiredFunction, ProvidedType}
 use Rattle.comp_links.specs.Modules.{WorldModule, module_found}
-use Rattle.comp_links.specs.Targets.{UserModule, Main, Adapter, ExportRef, TargetOption, Memory, Realloc, Encoding, Async, PostReturn, Callback, Target, Lowered, BuiltIn}
+use Rattle.comp_links.specs.Targets.{UserModule, Main, Adapter, ExportRef, TargetOption, Memory, Realloc, Encoding, Async, PostReturn, Callback, Target, Lowered, BuiltIn, ExportOf}
 use Rattle.link_laws.specs.Meeting.{task_hook}
 
 -- ---- what needs no hook
@@ -151,6 +151,10 @@ bare_entry w ok r core is = by (task_hook w) refl
 
 -- ---- reallocs
 
+-- what a library takes of main
+abbrev library_realloc : Option (List ℕ) → Option (Option (List ℕ) × List ℕ)
+library_realloc general = option_map (λ name. (None, name)) general
+
 no_realloc : (w : ComponentWorld) → IsWorld w → (name : List ℕ) → task_hook w ≡ Some name → (of : UserModule) (test : Export → Bool) → ((role : Export) → test role ≡ true → is_hooked role ≡ true) → realloc_of w of test ≡ None
 no_realloc w ok name e of test hooked = by (module_found w of) refl
   where
@@ -162,7 +166,7 @@ no_realloc w ok name e of test hooked = by (module_found w of) refl
 
     of_library : (b : Bool) → main_realloc_if b w.main.exports.exports ≡ None
     of_library false = refl
-    of_library true = ap (option_map (λ x. (None, x))) of_main
+    of_library true = ap library_realloc of_main
 
     resolved : (which : Option (List ℕ)) → resolved_realloc w which None ≡ None
     resolved None = refl
@@ -254,7 +258,7 @@ bare_link_at w ok of module_name field target is = by (found module_name of.foun
 
     within : (i : ImportInstance) → link_in w of.of field i ≡ Some target → BareTarget w target
     within (instances.Names fields) is = named (found field fields) is
-    within (instances.Whole which) is = subst (BareTarget w) (same_Some _ target is) tt
+    within (instances.Whole which) is = subst (BareTarget w) (same_Some (ExportOf (record { of = module_of which; name = field })) target is) tt
 
     by : (o : Option ImportInstance) → option_and_then (link_in w of.of field) o ≡ Some target → BareTarget w target
     by None is = absurd (none-some target is)
