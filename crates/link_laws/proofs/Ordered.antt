@@ -32,6 +32,7 @@ use Rattle.comp_worlds.specs.declared.world.ComponentWorld.{ComponentWorld}
 use Rattle.shim_modules.specs.Shims as shims
 use Rattle.shim_modules.specs.declared.shims.ShimFunction.{ShimFunction}
 use Rattle.shim_modules.specs.declared.shims.ThreadCell.{ThreadCell}
+use Rattle.fixup_modules.specs.declared.actions.StartAction.{StartAction}
 use Rattle.fixup_modules.specs.Fixups.{Fixup}
 use Rattle.fixup_modules.specs.Sections as fixups
 use Rattle.interned_types.specs.Interning.{interned}
@@ -75,7 +76,7 @@ fixup_names_last : (id : ℕ) (debug_names : Bool) (entries : List Import) (own 
 fixup_names_last id false entries own = refl
 fixup_names_last id true entries own = (refl, refl)
 
-module _ (types : List FuncType) (entries : List Import) (fills calls : List ℕ) (debug_names : Bool) (named : Option ℕ) where
+module _ (types : List FuncType) (entries : List Import) (fills : List ℕ) (users : List StartAction) (debug_names : Bool) (named : Option ℕ) where
   fixup_with_parts : Option ℕ → Option ℕ → Option ℕ → List Section
   fixup_with_parts own first table =
       sections.Types types
