@@ -31,9 +31,10 @@ use Rattle.core_runs.specs.declared.bracket.Bracketed.{Bracketed}
 use Rattle.standard_kinds.specs.declared.kinds.StringEncoding.{StringEncoding}
 use Rattle.wit_data.specs.declared.worlds.WorldKey.TheVariants as keys
 use Rattle.world_values.specs.CoreExports.{lifted_function, implemented_by, implementations}
-use Rattle.comp_links.specs.Links.{if_needed, options_in, lower_needs, import_encoding, name_of_user, export_at, realloc_of, lower_realloc, lower_options, core_name, destructor_of, export_of, link_of_cell, link_of_intrinsic, module_of, link_of, link_in, link_at}
+use Rattle.comp_links.specs.Links.{if_needed, options_in, lower_needs, name_of_user, export_at, realloc_of, lower_realloc, lower_options, core_name, destructor_of, export_of, link_of_cell, link_of_intrinsic, module_of, link_of, link_in, link_at}
 use Rattle.comp_links.specs.Lists.{RequiredFunction, ProvidedType}
 use Rattle.comp_links.specs.Modules.{WorldModule, module_found}
+use Rattle.comp_links.specs.Roles.{import_encoding}
 use Rattle.comp_links.specs.Targets.{UserModule, Main, Adapter, ExportRef, TargetOption, Memory, Realloc, Encoding, Async, PostReturn, Callback, Target, Lowered, BuiltIn, ExportOf}
 use Rattle.link_laws.specs.Meeting.{task_hook}
 
