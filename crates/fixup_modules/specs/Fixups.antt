@@ -5,6 +5,7 @@ use Rattle.std.specs.Prelude.{ℕ, ◌≡◌, ◌≤◌, ◌^◌, ◌⊎◌, Lis
 use Rattle.core_types.specs.declared.types.FuncType.{FuncType}
 use Rattle.core_bytes.specs.declared.entity.EntityType.{EntityType}
 use Rattle.core_bytes.specs.declared.entity.EntityType.TheVariants as entities
+use Rattle.core_runs.specs.declared.bracket.Bracket.{Bracket}
 use Rattle.core_runs.specs.declared.bracket.TaskHook.TheVariants.{InitializeStart, InitializeFinish}
 use Rattle.core_runs.specs.declared.start.StartStep.{StartStep}
 use Rattle.core_runs.specs.declared.start.StartStep.TheVariants.{Thunk, Hook}
@@ -16,19 +17,21 @@ use Rattle.fixup_modules.specs.declared.instances.ImportedInstance.{ImportedInst
 use Rattle.fixup_modules.specs.declared.instances.ImportedInstance.TheVariants as instances
 use Rattle.fixup_modules.specs.declared.fault.ShimFault.{ShimFault}
 use Rattle.fixup_modules.specs.declared.fault.ShimFault.TheVariants as faults
-use Rattle.fixup_modules.specs.Faults.{IsFull}
+use Rattle.fixup_modules.specs.declared.wrappers.Wrapper.{Wrapper}
+use Rattle.fixup_modules.specs.Faults.{IsFull, IsBeyond}
 use Rattle.fixup_modules.specs.Imports.{Imported, nothing_imported, with_import, import_index, ImportCause}
 
 -- The functions are those for the slots of the table, in their order; what the start function does is
--- done in order.
+-- done in order; and the module's own functions that call the task hook round others are in order, too.
 pub record Fixup : Type 0 where
   pub types : List FuncType
   pub imported : Imported
   pub fills : List ℕ
   pub users : List StartAction
+  pub wrappers : List Wrapper
 
 abbrev pub nothing_fixed : Fixup
-nothing_fixed = record { types = []; imported = nothing_imported; fills = []; users = [] }
+nothing_fixed = record { types = []; imported = nothing_imported; fills = []; users = []; wrappers = [] }
 
 -- the type of a function without parameters and results
 abbrev pub thunk : FuncType
@@ -51,6 +54,7 @@ with_shim f name type = record {
   imported = with_import f.imported instances.Actual name (shim_target f.types type);
   fills = f.fills ++ import_index f.imported instances.Actual name (shim_target f.types type) ∷ [];
   users = f.users;
+  wrappers = f.wrappers;
 }
 
 -- ---- the start function
@@ -75,6 +79,7 @@ with_initialize f name = record {
   imported = with_import f.imported instances.Main name (thunk_item f.types);
   fills = f.fills;
   users = f.users ++ actions.Call (import_index f.imported instances.Main name (thunk_item f.types)) ∷ [];
+  wrappers = f.wrappers;
 }
 
 -- the task hook, as an item
@@ -93,6 +98,32 @@ with_task_hook f name = record {
   imported = with_import f.imported instances.Main name (hook_item f.types);
   fills = f.fills;
   users = hooked (import_index f.imported instances.Main name (hook_item f.types)) f.users;
+  wrappers = f.wrappers;
+}
+
+-- ---- one more wrapper
+
+-- a function that calls the function of this index before and after another one, which an instance exports with this
+-- type, where these types and imports are there
+abbrev pub wrapper_of : List FuncType → Imported → ℕ → ImportedInstance → List ℕ → FuncType → Bracket → Wrapper
+wrapper_of types imported hook instance name type bracket = record {
+  instance = instance;
+  name = name;
+  type_index = type_index types type;
+  params = length type.params;
+  bracket = bracket;
+  hook = hook;
+  target = import_index imported instance name (shim_target types type);
+}
+
+-- The other function is imported, and the wrapper comes after those before it.
+abbrev pub with_wrapper : Fixup → ℕ → ImportedInstance → List ℕ → FuncType → Bracket → Fixup
+with_wrapper f hook instance name type bracket = record {
+  types = interned f.types type;
+  imported = with_import f.imported instance name (shim_target f.types type);
+  fills = f.fills;
+  users = f.users;
+  wrappers = f.wrappers ++ wrapper_of f.types f.imported hook instance name type bracket ∷ [];
 }
 
 -- ---- refusals
@@ -120,6 +151,10 @@ ShimCause f name type e = SlotCause f.types f.imported f.fills instances.Actual 
 -- Why main's initialization can't be added.
 abbrev pub CallCause : Fixup → List ℕ → ShimFault → Type 0
 CallCause f name e = FunctionCause f.types f.imported instances.Main name thunk e
+
+-- Why a wrapper can't be added: it has too many parameters, there are too many wrappers, or its function can't be imported.
+abbrev pub WrapCause : Fixup → ImportedInstance → List ℕ → FuncType → ShimFault → Type 0
+WrapCause f instance name type e = IsFull (length f.wrappers) e ⊎ IsBeyond (length type.params) e ⊎ FunctionCause f.types f.imported instance name type e
 
 -- Why the task hook can't be.
 abbrev pub HookCause : Fixup → List ℕ → ShimFault → Type 0

@@ -1,6 +1,6 @@
 //! A fixup module that is built call by call.
 
-ghost use Rattle.std.specs.Prelude.{◌≡◌, ◌+◌, ◌<◌, ◌^◌, [], ◌∷◌, ◌++◌, length, Some, slice_get, OnOk, OnErr, IfOk, IfErr};
+ghost use Rattle.std.specs.Prelude.{◌≡◌, ◌+◌, ◌<◌, ◌^◌, ◌⊎◌, [], ◌∷◌, ◌++◌, length, Some, slice_get, OnOk, OnErr, IfOk, IfErr};
 ghost use Rattle.core_bytes.specs.declared.entity.EntityType.TheVariants as entities;
 ghost use Rattle.interned_types.specs.Interning.{type_index, interned};
 ghost use Rattle.core_runs.specs.declared.bracket.TaskHook.TheVariants.{InitializeStart, InitializeFinish};
@@ -10,16 +10,18 @@ ghost use Rattle.fixup_modules.specs.Imports.{with_import, import_index, MayImpo
 ghost use Rattle.std.specs.Vec.{vec_len, vec_capacity};
 ghost use Rattle.core_runs.specs.Expected.{hook_signature};
 ghost use Rattle.fixup_modules.specs.declared.actions.StartAction.TheVariants as actions;
-ghost use Rattle.fixup_modules.specs.Fixups.{Fixup, nothing_fixed, thunk, thunk_item, hook_item, hooked, with_type, with_shim, with_user, with_initialize, with_task_hook, shim_target, TypeCause, FunctionCause, SlotCause, ShimCause, CallCause, HookCause};
+ghost use Rattle.fixup_modules.specs.Faults.{IsFull, IsBeyond};
+ghost use Rattle.fixup_modules.specs.Fixups.{Fixup, nothing_fixed, thunk, thunk_item, hook_item, hooked, wrapper_of, with_type, with_shim, with_user, with_initialize, with_task_hook, with_wrapper, shim_target, TypeCause, FunctionCause, SlotCause, ShimCause, CallCause, HookCause, WrapCause};
 
 use crate::actions::StartAction;
 use crate::fault::ShimFault;
 use crate::imports::ImportTable;
 use crate::instances::ImportedInstance;
-use byte_encoding::next_count;
-use comp_lists::Seq;
+use crate::wrappers::Wrapper;
+use byte_encoding::{count_of, next_count};
+use comp_lists::{Seq, Text, TryClone};
 use core_bytes::EntityType;
-use core_runs::TaskHook;
+use core_runs::{Bracket, TaskHook};
 use core_types::{FuncType, GlobalType, ValType};
 use interned_types::CoreTypes;
 use std::alloc::{AllocError, Global};
@@ -38,6 +40,8 @@ pub struct FixupModule {
     pub(crate) fills: Vec<u32>,
     /// What the start function does, in order.
     pub(crate) users: Vec<StartAction>,
+    /// The functions that call the task hook round others, in order.
+    pub(crate) wrappers: Vec<Wrapper>,
 }
 
 impl Model for FixupModule {
@@ -46,9 +50,9 @@ impl Model for FixupModule {
 
     ghost Value = { Fixup };
 
-    ghost view = { λ f. record { types = f.types; imported = f.imports; fills = f.fills.items; users = f.users.items } };
+    ghost view = { λ f. record { types = f.types; imported = f.imports; fills = f.fills.items; users = f.users.items; wrappers = f.wrappers.items } };
 
-    ghost invariant = { λ f. length f.fills.items < 2 ^ 32 };
+    ghost invariant = { λ f. (length f.fills.items < 2 ^ 32) × (length f.wrappers.items < 2 ^ 32) };
 }
 
 /// The type of functions without parameters and results.
@@ -71,6 +75,38 @@ fn hook_type(alloc: Global) -> Result<FuncType, AllocError>
         params,
         results: Seq::new(alloc),
     })
+}
+
+/// Imports a function of a type, and returns the indices of both. After a refusal types and imports are as they were.
+fn import_typed(
+    types: &mut CoreTypes,
+    imports: &mut ImportTable,
+    instance: &ImportedInstance,
+    name: &str,
+    ty: FuncType,
+) -> Result<(u32, u32), ShimFault>
+    ensures types { OnOk result (types.new ≡ interned types.old ty) }
+    ensures imports { OnOk result
+        (imports.new ≡ with_import imports.old instance.now name.now (shim_target types.old ty)) }
+    ensures indices { IfOk result (λ both. both
+        ≡ (
+          type_index types.old ty,
+          import_index imports.old instance.now name.now (shim_target types.old ty),
+        )) }
+    ensures refused { OnOk result
+        (MayImport imports.old instance.now name.now (shim_target types.old ty)) }
+    ensures err { OnErr result ((types.new ≡ types.old) × (imports.new ≡ imports.old)) }
+    ensures cause { IfErr result (FunctionCause types.old imports.old instance.now name.now ty) }
+{
+    let count = types.len();
+    let type_index = types.intern(ty)?;
+    match imports.import(instance, name, EntityType::Function(type_index)) {
+        Ok(index) => Ok((type_index, index)),
+        Err(fault) => {
+            types.truncate(count);
+            Err(fault)
+        }
+    }
 }
 
 /// Imports a function of a type. After a refusal types and imports are as they were.
@@ -230,10 +266,12 @@ fn hook_users(
     users: &mut Vec<StartAction>,
     name: &str,
     ty: FuncType,
-) -> Result<(), ShimFault>
+) -> Result<u32, ShimFault>
     ensures types { OnOk result (types.new ≡ interned types.old ty) }
     ensures imports { OnOk result (imports.new
         ≡ with_import imports.old instances.Main name.now (shim_target types.old ty)) }
+    ensures index { IfOk result (λ hook. hook
+        ≡ import_index imports.old instances.Main name.now (shim_target types.old ty)) }
     ensures users { OnOk result (users.new.items
         ≡ hooked (import_index imports.old instances.Main name.now (shim_target types.old ty))
         users.old.items) }
@@ -248,7 +286,67 @@ fn hook_users(
     users.reserve(2)?;
     let hook = import_function(types, imports, &ImportedInstance::Main, name, ty)?;
     put_hooks(users, hook);
-    Ok(())
+    Ok(hook)
+}
+
+/// How many parameters there are. It is refused where these are more than 2^32 - 1.
+fn param_count(ty: &FuncType) -> Result<u32, ShimFault>
+    ensures ok { IfOk result (λ count. count ≡ length ty.now.params) }
+    ensures cause { IfErr result (IsBeyond (length ty.now.params)) }
+{
+    let none: &[ValType] = &[];
+    let count = count_of(ty.params.as_slice(), none)?;
+    Ok(count)
+}
+
+/// Imports a function of a type, and appends its wrapper. After a refusal all is as it was.
+fn append_wrapper(
+    alloc: Global,
+    types: &mut CoreTypes,
+    imports: &mut ImportTable,
+    wrappers: &mut Vec<Wrapper>,
+    hook: u32,
+    instance: &ImportedInstance,
+    name: &str,
+    ty: FuncType,
+    bracket: Bracket,
+) -> Result<(), ShimFault>
+    requires { length wrappers.old.items < 2 ^ 32 }
+    ensures types { OnOk result (types.new ≡ interned types.old ty) }
+    ensures imports { OnOk result
+        (imports.new ≡ with_import imports.old instance.now name.now (shim_target types.old ty)) }
+    ensures wrappers { OnOk result (wrappers.new.items
+        ≡ wrappers.old.items
+        ++ wrapper_of types.old imports.old hook instance.now name.now ty bracket ∷ []) }
+    ensures room { OnOk result (length wrappers.new.items < 2 ^ 32) }
+    ensures refused { OnOk result
+        (MayImport imports.old instance.now name.now (shim_target types.old ty)) }
+    ensures err { OnErr result ((types.new ≡ types.old)
+        × (imports.new ≡ imports.old)
+        × (wrappers.new.items ≡ wrappers.old.items)) }
+    ensures cause { IfErr result (λ e. IsFull (length wrappers.old.items) e
+        ⊎ IsBeyond (length ty.params) e
+        ⊎ FunctionCause types.old imports.old instance.now name.now ty e) }
+{
+    next_count(wrappers.len() as u32)?;
+    let params = param_count(&ty)?;
+    let own_instance = instance.try_clone(alloc)?;
+    let own_name = Text::from_str(alloc, name)?;
+    wrappers.reserve(1)?;
+    let (type_index, target) = import_typed(types, imports, instance, name, ty)?;
+    let wrapper = Wrapper {
+        instance: own_instance,
+        name: own_name,
+        type_index,
+        params,
+        bracket,
+        hook,
+        target,
+    };
+    match wrappers.push(wrapper) {
+        Ok(()) => Ok(()),
+        Err(_) => unreachable!(),
+    }
 }
 
 impl FixupModule {
@@ -262,6 +360,7 @@ impl FixupModule {
             imports: ImportTable::new(alloc),
             fills: Vec::new(alloc),
             users: Vec::new(alloc),
+            wrappers: Vec::new(alloc),
         }
     }
 
@@ -455,25 +554,69 @@ impl FixupModule {
     /// results, and lets it be called before and after what the start function does, where it does
     /// anything: with the numbers by which a host is told that main begins to be initialized, and
     /// that it has been. So it comes after all of [`FixupModule::add_initialize`] and
-    /// [`FixupModule::add_start_user_func`].
+    /// [`FixupModule::add_start_user_func`]. Its index is returned.
     ///
     /// It fails as [`FixupModule::type_intern`] and [`FixupModule::import`] do.
     ///
     /// Core standard, structure: start function.
-    pub fn prepare_task_hooks(&mut self, name: &str) -> Result<(), ShimFault>
+    pub fn prepare_task_hooks(&mut self, name: &str) -> Result<u32, ShimFault>
         ensures ok { OnOk result (self.new ≡ with_task_hook self.old name.now) }
+        ensures index { IfOk result (λ hook. hook
+            ≡ import_index self.old.imported instances.Main name.now (hook_item self.old.types)) }
         ensures refused { OnOk result
             (MayImport self.old.imported instances.Main name.now (hook_item self.old.types)) }
         ensures err { OnErr result (self.new ≡ self.old) }
         ensures cause { IfErr result (HookCause self.old name.now) }
     {
         let ty = hook_type(self.alloc)?;
-        hook_users(
+        let hook = hook_users(
             &mut self.types,
             &mut self.imports,
             &mut self.users,
             name,
             ty,
+        )?;
+        Ok(hook)
+    }
+
+    /// Adds a function that calls the task hook round another one, as a bracket says: that function is
+    /// imported from an instance under a name, with a type, and what the new function is given and
+    /// returns is what that is given and returns. It is exported under `hook` and its place among the
+    /// wrappers. The hook is a function of one `i32` without results, by the index that
+    /// [`FixupModule::import_func`] or [`FixupModule::prepare_task_hooks`] returned; a bracket that
+    /// reads a code is for a function whose one result is an `i32`.
+    ///
+    /// It fails as [`FixupModule::type_intern`] and [`FixupModule::import`] do, and with
+    /// [`ShimFault::TooMany`] where there would be more than 2^32 - 1 wrappers, or the function has
+    /// as many parameters.
+    ///
+    /// Core standard, structure: functions, exports.
+    pub fn wrap(
+        &mut self,
+        hook: u32,
+        instance: &ImportedInstance,
+        name: &str,
+        ty: FuncType,
+        bracket: Bracket,
+    ) -> Result<(), ShimFault>
+        ensures ok { OnOk result
+            (self.new ≡ with_wrapper self.old hook instance.now name.now ty bracket) }
+        ensures refused { OnOk result (MayImport self.old.imported instance.now name.now
+            (shim_target self.old.types ty)) }
+        ensures room { OnOk result (length self.new.wrappers < 2 ^ 32) }
+        ensures err { OnErr result (self.new ≡ self.old) }
+        ensures cause { IfErr result (WrapCause self.old instance.now name.now ty) }
+    {
+        append_wrapper(
+            self.alloc,
+            &mut self.types,
+            &mut self.imports,
+            &mut self.wrappers,
+            hook,
+            instance,
+            name,
+            ty,
+            bracket,
         )?;
         Ok(())
     }
