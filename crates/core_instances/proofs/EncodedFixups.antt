@@ -28,7 +28,7 @@ IsEncodedFixup shims initialize hook debug_names (Some e) =
     (has_tasks_in shims initialize ≡ true) × (e.«module» ≡ sections_of_fixup shims initialize hook debug_names) × (e.instances ≡ fixup_instances shims initialize hook)
 
 encoded_with : (shims : List Shim) (initialize hook : Option (List ℕ)) (debug_names : Bool) → IsFixupOf shims initialize hook (fixup_of shims initialize hook) →
-    IsEncodedFixup shims initialize hook debug_names (if is_idle (range_with_len 0 (length shims)) (users_of (length shims) initialize hook) then None else Some (module_with_instances (fixup_of shims initialize hook) debug_names))
+    IsEncodedFixup shims initialize hook debug_names (if is_idle (range_with_len 0 (length shims)) (users_of (length shims) initialize hook) [] then None else Some (module_with_instances (fixup_of shims initialize hook) debug_names))
 encoded_with [] None hook debug_names h = refl
 encoded_with [] (Some name) None debug_names h = (refl, refl, h.instances)
 encoded_with [] (Some name) (Some hook) debug_names h = (refl, refl, h.instances)
@@ -37,7 +37,9 @@ encoded_with (s ∷ ss) initialize hook debug_names h = (refl, refl, h.instances
 encoded_by : (shims : List Shim) (initialize hook : Option (List ℕ)) (debug_names : Bool) → IsFixupOf shims initialize hook (fixup_of shims initialize hook) → IsEncodedFixup shims initialize hook debug_names (encoded_fixup (fixup_of shims initialize hook) debug_names)
 encoded_by shims initialize hook debug_names h =
     let f = fixup_of shims initialize hook in
-    let idle : is_idle f.fills f.users ≡ is_idle (range_with_len 0 (length shims)) (users_of (length shims) initialize hook) = ap₂ (λ fills users. is_idle fills users) h.fills h.users in
+    let idle : is_idle f.fills f.users f.wrappers ≡ is_idle (range_with_len 0 (length shims)) (users_of (length shims) initialize hook) [] =
+    ap₂ (λ fills users. is_idle fills users f.wrappers) h.fills h.users
+    ∙ ap (λ wrappers. is_idle (range_with_len 0 (length shims)) (users_of (length shims) initialize hook) wrappers) h.wrappers in
     subst (λ (b : Bool). IsEncodedFixup shims initialize hook debug_names (if b then None else Some (module_with_instances f debug_names))) (sym idle) (encoded_with shims initialize hook debug_names h)
 
 -- the two functions of main have two names

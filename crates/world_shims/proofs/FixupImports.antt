@@ -127,6 +127,7 @@ record IsFixed (f : Fixup) (place : ℕ) (shims : List Shim) (g : Fixup) : Type 
   pub fills : g.fills ≡ f.fills ++ range_with_len place (length shims)
   pub earlier : AllByRecursion (IsEarlier (place + length shims)) g.imported.entries
   pub users : g.users ≡ f.users
+  pub wrappers : g.wrappers ≡ f.wrappers
 
 fixed_by : (f : Fixup) (place : ℕ) (shims : List Shim) → AreNumbered place shims → place + length shims ≤ 2 ^ 32 → length f.imported.entries ≡ place → AllByRecursion (IsEarlier place) f.imported.entries → IsFixed f place shims (fixup_with f shims)
 fixed_by f place [] numbered room count earlier =
@@ -137,6 +138,7 @@ fixed_by f place [] numbered room count earlier =
       fills = sym (append-nil f.fills);
       earlier = subst (λ n. AllByRecursion (IsEarlier n) f.imported.entries) e earlier;
       users = refl;
+      wrappers = refl;
     }
 fixed_by f place (s ∷ ss) numbered room count earlier =
     let target = shim_target f.types (type_of_shim s) in
@@ -164,6 +166,7 @@ fixed_by f place (s ∷ ss) numbered room count earlier =
           ∙ ap (λ n. f.fills ++ place ∷ range_with_len n (length ss)) next;
       earlier = subst (λ n. AllByRecursion (IsEarlier n) (fixup_with g ss).imported.entries) last more.earlier;
       users = more.users;
+      wrappers = more.wrappers;
     }
 
 -- ---- the whole
@@ -217,6 +220,7 @@ pub record IsFixupOf (shims : List Shim) (initialize hook : Option (List ℕ)) (
   pub instances : (all_imported f).instances ≡ fixup_instances shims initialize hook
   pub table : (shims ≡ [] → ⊥) → table_index f ≡ 0
   pub users : f.users ≡ users_of (length shims) initialize hook
+  pub wrappers : f.wrappers ≡ []
 
 -- the same before the table is imported
 record IsAdded (shims : List Shim) (initialize hook : Option (List ℕ)) (f : Fixup) : Type 0 where
@@ -226,6 +230,7 @@ record IsAdded (shims : List Shim) (initialize hook : Option (List ℕ)) (f : Fi
   instances : f.imported.instances ≡ actual_if shims ++ main_if initialize hook
   plain : AllByRecursion IsPlain f.imported.entries
   users : f.users ≡ users_of (length shims) initialize hook
+  wrappers : f.wrappers ≡ []
 
 -- ---- a function of main
 
@@ -258,7 +263,7 @@ main_if_hook (Some name) hook = refl
 -- ---- the shims
 
 added_shims : (shims : List Shim) → AreNumbered 0 shims → length shims < 2 ^ 32 → IsAdded shims None None (fixup_with nothing_fixed shims) × AllByRecursion (IsEarlier (length shims)) (fixup_with nothing_fixed shims).imported.entries
-added_shims [] numbered room = (record { types = refl; fills = refl; entries = refl; instances = refl; plain = tt; users = refl }, tt)
+added_shims [] numbered room = (record { types = refl; fills = refl; entries = refl; instances = refl; plain = tt; users = refl; wrappers = refl }, tt)
 added_shims (s ∷ ss) numbered room =
     let shims : List Shim = s ∷ ss in
     let fixed : IsFixed nothing_fixed 0 shims (fixup_with nothing_fixed shims) = fixed_by nothing_fixed 0 shims numbered (omega (arith, room)) refl tt in
@@ -271,6 +276,7 @@ added_shims (s ∷ ss) numbered room =
         instances = (of_actual s ss).instances;
         plain = AllByRecursion-weaker (earlier_plain (length shims)) (fixup_with nothing_fixed shims).imported.entries earlier;
         users = fixed.users;
+        wrappers = fixed.wrappers;
       },
       earlier,
     )
@@ -298,6 +304,7 @@ added_call shims (Some name) f h earlier =
           ∙ of_main_once shims None;
       plain = subst (λ (m : Imported). AllByRecursion IsPlain m.entries) (sym last.grows) last.plain;
       users = ap (λ l. l ++ actions.Call (import_index f.imported instances.Main name (thunk_item f.types)) ∷ []) h.users ∙ ap (λ n. actions.Call n ∷ []) (last.index ∙ counted);
+      wrappers = h.wrappers;
     }
 
 -- ---- its task hook
@@ -349,6 +356,7 @@ added_hook shims initialize (Some name) f h missing =
           ∙ ap (λ l. actual_if shims ++ l) (sym (main_if_hook initialize name));
       plain = subst (λ (m : Imported). AllByRecursion IsPlain m.entries) (sym last.grows) last.plain;
       users = ap (λ l. hooked (import_index f.imported instances.Main name (hook_item f.types)) l) h.users ∙ users_hooked (length shims) initialize name _ index;
+      wrappers = h.wrappers;
     }
 
 -- ---- the table
@@ -385,6 +393,7 @@ with_shims s ss initialize hook f h =
           ∙ shims_last s ss initialize hook;
       table = λ any. ap (λ l. count_of kinds.Table l) (all_before (is_named (codes "shim") table_name) f.imported.entries (lacks_table f.imported.entries h.plain)) ∙ no_tables f.imported.entries h.plain;
       users = h.users;
+      wrappers = h.wrappers;
     }
 
 without_shims : (initialize hook : Option (List ℕ)) (f : Fixup) → IsAdded [] initialize hook f → IsFixupOf [] initialize hook f
@@ -401,6 +410,7 @@ without_shims initialize hook f h = record {
       ∙ sym (append-nil (main_if initialize hook));
   table = λ any. absurd (any refl);
   users = h.users;
+  wrappers = h.wrappers;
 }
 
 -- ---- the whole
