@@ -23,12 +23,11 @@ use Rattle.comp_terms.specs.Generated.{shims_number, fixup_number, IsFixup, has_
 use Rattle.comp_worlds.specs.Offered.{shared_memory}
 use Rattle.world_shims.specs.WorldShims.{shims_of, type_of_shim, sections_of_shims, sections_of_fixup, initialize_of, hook_of}
 use Rattle.world_shims.proofs.MainCalls.{calls_unlike}
-use Rattle.shim_runs.specs.ShimRuns.{IsOfAddresses, with_cell, with_shims, with_memory, memory_address, ShimsRun, with_functions, with_slots, start_deeds, FixupRun, HasSlots}
+use Rattle.shim_runs.specs.ShimRuns.{IsOfAddresses, with_cell, with_shims, with_memory, memory_address, ShimsRun, with_functions, with_slots, FixupRun, HasSlots}
 use Rattle.comp_roles.specs.declared.imports.ImportInstance.{ImportInstance}
 use Rattle.comp_worlds.specs.declared.world.ComponentWorld.{ComponentWorld}
-use Rattle.core_runs.specs.Store.{Event, Instantiated, Called, Now}
+use Rattle.core_runs.specs.Store.{Event, Instantiated, Now}
 use Rattle.core_runs.specs.Starts.{deeds_done}
-use Rattle.core_runs.specs.Values.{Value}
 use Rattle.core_runs.specs.Store as core
 use Rattle.core_runs.specs.Execution.{seen}
 use Rattle.comp_runs.specs.Store.{Thing, Export, ModuleInstance, Store}
@@ -36,7 +35,7 @@ use Rattle.comp_links.specs.Modules.{WorldModule, user_modules}
 use Rattle.comp_links.specs.Lists.{required_keys}
 use Rattle.comp_roles.specs.declared.offered.ImportType.{ImportType}
 use Rattle.comp_terms.specs.Rules.{InstantiatesUser, InstantiatesShims, InstantiatesFixup, InstantiatesModule, instance_number, instances_in, landmark, shims_if, made_before_fixup}
-use Rattle.comp_runs.specs.Machine.{Scope, Machine, Outcome, address_at, is_of, all_some, resumed}
+use Rattle.comp_runs.specs.Machine.{Scope, Machine, address_at, is_of, all_some, resumed}
 use Rattle.comp_runs.specs.Instances.{ExportTypes, exported_by, with_exports, with_module_instance, given_to, new_user, ModuleMeaning, OfUser, OfGenerated}
 use Rattle.comp_runs.specs.Running.{core_argument, run}
 use Rattle.instance_laws.proofs.Held.{KeepsEntries, keeps_same, keeps_more, keeps_grown}

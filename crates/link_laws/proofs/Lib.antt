@@ -18,6 +18,7 @@ pub mod Steps
 pub mod InstanceSteps
 mod NestedSteps
 pub mod Marks
+mod Typed
 pub mod Ordered
 mod ImportedTypes
 mod Served

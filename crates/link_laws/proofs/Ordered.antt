@@ -32,6 +32,7 @@ use Rattle.comp_worlds.specs.declared.world.ComponentWorld.{ComponentWorld}
 use Rattle.shim_modules.specs.Shims as shims
 use Rattle.shim_modules.specs.declared.shims.ShimFunction.{ShimFunction}
 use Rattle.shim_modules.specs.declared.shims.ThreadCell.{ThreadCell}
+use Rattle.fixup_modules.specs.declared.actions.StartAction.{StartAction}
 use Rattle.fixup_modules.specs.Fixups.{Fixup}
 use Rattle.fixup_modules.specs.Sections as fixups
 use Rattle.interned_types.specs.Interning.{interned}
@@ -49,6 +50,7 @@ use Rattle.comp_terms.specs.Rules.{InstantiatesModule, IsExportRight, IsRight, R
 use Rattle.link_laws.specs.Composition.{GeneratedModules, generated_sections, AreSectionsAfter, AreSections, AreArgumentsNamed, IsExportSound, IsSound, AreSound}
 use Rattle.link_laws.proofs.Given.{user_below, not_shims, not_fixup}
 use Rattle.link_laws.proofs.InstanceSteps.{generated_for}
+use Rattle.link_laws.proofs.Typed.{shims_typed, shims_declared, fixup_imported, fixup_typed, fixup_declared}
 
 -- the generated modules of what was built
 abbrev pub modules_of : ComponentWorld → Bool → GeneratedBytes → GeneratedModules
@@ -75,7 +77,7 @@ fixup_names_last : (id : ℕ) (debug_names : Bool) (entries : List Import) (own 
 fixup_names_last id false entries own = refl
 fixup_names_last id true entries own = (refl, refl)
 
-module _ (types : List FuncType) (entries : List Import) (fills calls : List ℕ) (debug_names : Bool) (named : Option ℕ) where
+module _ (types : List FuncType) (entries : List Import) (fills : List ℕ) (users : List StartAction) (debug_names : Bool) (named : Option ℕ) where
   fixup_with_parts : Option ℕ → Option ℕ → Option ℕ → List Section
   fixup_with_parts own first table =
       sections.Types types
@@ -196,17 +198,26 @@ are_shims memory cell ss debug_names room =
       ordered = shims_in_order memory own types fs debug_names;
       once = subst (λ es. IsDistinct bytes_eq (names_in es)) (sym (exports_alone memory own types fs debug_names))
           (numbers_apart 0 fs (behind memory own (length fs) fs) (omega (arith, room, counted)) (never_behind memory own (length fs) fs) (behind_apart memory own (length fs) fs));
+      typed = shims_typed memory own types fs debug_names;
+      declared = shims_declared memory own types fs debug_names;
     }
 
-are_fixup : (f : Fixup) (debug_names : Bool) → AreSections debug_names (fixups.fixup_sections f debug_names)
-are_fixup f debug_names = record { ordered = fixup_in_order f debug_names; once = subst (λ es. IsDistinct bytes_eq (names_in es)) (sym (no_exports f debug_names)) none_apart }
+are_fixup : (ss : List Shim) (initialize hook : Option (List ℕ)) (debug_names : Bool) → AreSections debug_names (fixups.fixup_sections (fixup_of ss initialize hook) debug_names)
+are_fixup ss initialize hook debug_names =
+    let f : Fixup = fixup_of ss initialize hook in
+    record {
+      ordered = fixup_in_order f debug_names;
+      once = subst (λ es. IsDistinct bytes_eq (names_in es)) (sym (no_exports f debug_names)) none_apart;
+      typed = fixup_typed f debug_names (fixup_imported ss initialize hook);
+      declared = fixup_declared f debug_names;
+    }
 
 pub sections_in_order : (w : ComponentWorld) (debug_names : Bool) (g : GeneratedBytes) → AreGenerated w debug_names g → AllByRecursion (AreSections debug_names) (generated_sections (modules_of w debug_names g))
 sections_in_order w debug_names g h = by g.shims g.fixup
   where
     fixup : (o : Option (List ℕ)) → AllByRecursion (AreSections debug_names) (generated_sections (generated_for w debug_names (record { shims = None; fixup = o })))
     fixup None = tt
-    fixup (Some bytes) = (are_fixup (fixup_of (shims_of w) (initialize_of w) (hook_of w)) debug_names, tt)
+    fixup (Some bytes) = (are_fixup (shims_of w) (initialize_of w) (hook_of w) debug_names, tt)
 
     by : (o p : Option (List ℕ)) → AllByRecursion (AreSections debug_names) (generated_sections (generated_for w debug_names (record { shims = o; fixup = p })))
     by None p = fixup p

@@ -27,7 +27,7 @@ straight_is_composed shims_encoded fixup_encoded = record {
   generated = shims_bytes ∷ fixup_bytes (0 ∷ 1 ∷ []) ∷ [];
   modules = refl;
   encoded = (shims_encoded, (fixup_encoded, tt));
-  sections = (record { ordered = (omega arith, (omega arith, (omega arith, (omega arith, (omega arith, refl))))); once = shims_once }, (record { ordered = (omega arith, (omega arith, (omega arith, refl))); once = fixup_once }, tt));
+  sections = (record { ordered = (omega arith, (omega arith, (omega arith, (omega arith, (omega arith, refl))))); once = shims_once; typed = (tt, (tt, (((refl, omega arith), tt), (tt, (tt, tt))))); declared = tt }, (record { ordered = (omega arith, (omega arith, (omega arith, refl))); once = fixup_once; typed = (tt, ((tt, (tt, ((refl, omega arith), tt))), (tt, tt))); declared = tt }, tt));
   imports = refl;
   exports = refl;
   instances = refl;

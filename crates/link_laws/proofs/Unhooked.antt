@@ -13,7 +13,7 @@ use Rattle.comp_options.specs.Options.{needs, memory_bit, realloc_bit, encoding_
 use Rattle.comp_roles.specs.FunctionExports.{is_dtor}
 use Rattle.comp_roles.specs.Functions.{of_function}
 use Rattle.comp_roles.specs.Lookups.{first_export}
-use Rattle.comp_roles.specs.Reallocs.{is_general_realloc, is_import_realloc, is_export_realloc, realloc_for}
+use Rattle.comp_roles.specs.Reallocs.{is_general_realloc, is_import_realloc, realloc_for}
 use Rattle.comp_roles.specs.declared.exports.Export.{Export}
 use Rattle.comp_roles.specs.declared.exports.Export.TheVariants as exports
 use Rattle.comp_roles.specs.declared.imports.Import.{Import}
@@ -30,10 +30,11 @@ use Rattle.comp_worlds.specs.declared.world.WorldAdapter.{WorldAdapter}
 use Rattle.core_runs.specs.declared.bracket.Bracketed.{Bracketed}
 use Rattle.standard_kinds.specs.declared.kinds.StringEncoding.{StringEncoding}
 use Rattle.wit_data.specs.declared.worlds.WorldKey.TheVariants as keys
-use Rattle.world_values.specs.CoreExports.{lifted_function, implemented_by, implementations}
-use Rattle.comp_links.specs.Links.{if_needed, options_in, lower_needs, import_encoding, name_of_user, export_at, realloc_of, lower_realloc, lower_options, core_name, destructor_of, export_of, link_of_cell, link_of_intrinsic, module_of, link_of, link_in, link_at}
+use Rattle.world_values.specs.CoreExports.{lifted_function, implementations}
+use Rattle.comp_links.specs.Links.{if_needed, lower_needs, name_of_user, export_at, realloc_of, lower_realloc, lower_options, core_name, destructor_of, export_of, link_of_cell, link_of_intrinsic, module_of, link_of, link_in, link_at}
 use Rattle.comp_links.specs.Lists.{RequiredFunction, ProvidedType}
 use Rattle.comp_links.specs.Modules.{WorldModule, module_found}
+use Rattle.comp_links.specs.Roles.{import_encoding}
 use Rattle.comp_links.specs.Targets.{UserModule, Main, Adapter, ExportRef, TargetOption, Memory, Realloc, Encoding, Async, PostReturn, Callback, Target, Lowered, BuiltIn, ExportOf}
 use Rattle.link_laws.specs.Meeting.{task_hook}
 

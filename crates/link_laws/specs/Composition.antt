@@ -1,5 +1,5 @@
 -- What a list of definitions is to a validated world, as a list (component model, explainer: component definitions).
-use Rattle.std.specs.Prelude.{◌≡◌, ◌<◌, ◌++◌, ℕ, Bool, true, false, List, [], ◌∷◌, Option, Some, None, length, zero, suc, map, slice_get}
+use Rattle.std.specs.Prelude.{◌≡◌, ◌<◌, ◌≤◌, ◌++◌, ℕ, Bool, true, false, List, [], ◌∷◌, Option, Some, None, length, zero, suc, map, slice_get, Contains}
 use Rattle.std.specs.List.{AllByRecursion, AllZip, IsDistinct, flat_map}
 use Rattle.std.specs.Str.{bytes_eq}
 use Rattle.comp_bytes.specs.ScopeNames.{Names, member_export, item_export}
@@ -13,7 +13,22 @@ use Rattle.comp_bytes.specs.declared.def.Item.TheVariants as items
 use Rattle.comp_bytes.specs.declared.def.Def.{Def}
 use Rattle.comp_bytes.specs.declared.def.Def.TheVariants as defs
 use Rattle.core_bytes.specs.Modules.{Encodes, id_of}
+use Rattle.core_types.specs.declared.types.RefType.TheVariants.{FuncRef}
+use Rattle.core_types.specs.declared.types.TableType.{TableType}
+use Rattle.core_types.specs.declared.types.ValType.{ValType}
+use Rattle.core_types.specs.declared.types.ValType.TheVariants.{I32, I64}
+use Rattle.core_bytes.specs.declared.code.Body.{Body}
+use Rattle.core_bytes.specs.declared.code.Instruction.{Instruction}
+use Rattle.core_bytes.specs.declared.code.Instruction.TheVariants.{RefFunc}
+use Rattle.core_bytes.specs.declared.entity.ConstExpr.{ConstExpr}
+use Rattle.core_bytes.specs.declared.entity.ConstExpr.TheVariants as constants
+use Rattle.core_bytes.specs.declared.entity.EntityType.{EntityType}
+use Rattle.core_bytes.specs.declared.entity.EntityType.TheVariants as entities
+use Rattle.core_bytes.specs.declared.entry.DefinedGlobal.{DefinedGlobal}
+use Rattle.core_bytes.specs.declared.entry.ElementSegment.{ElementSegment}
+use Rattle.core_bytes.specs.declared.entry.ElementSegment.TheVariants as segments
 use Rattle.core_bytes.specs.declared.entry.Export.{Export}
+use Rattle.core_bytes.specs.declared.entry.Import.{Import}
 use Rattle.core_bytes.specs.declared.section.Section.{Section}
 use Rattle.core_bytes.specs.declared.section.Section.TheVariants as sections
 use Rattle.nested_terms.specs.Nested.{function_import}
@@ -82,10 +97,65 @@ AreSectionsAfter id debug_names [] = debug_names ≡ false
 AreSectionsAfter id debug_names (sections.Names names ∷ ss) = (debug_names ≡ true) × (ss ≡ [])
 AreSectionsAfter id debug_names (s ∷ ss) = (id < id_of s) × AreSectionsAfter (id_of s) debug_names ss
 
--- the sections of a module, which exports nothing twice
+-- ---- types in a generated module (core standard, validation: types, constant expressions, modules)
+
+-- a table is of functions, and its maximum, where it has one, is not below its minimum
+abbrev AreLimits : ℕ → Option ℕ → Type 0
+AreLimits least None = Unit {0}
+AreLimits least (Some most) = least ≤ most
+
+abbrev pub IsTable : TableType → Type 0
+IsTable t = (t.element_type ≡ FuncRef) × AreLimits t.minimum t.maximum
+
+-- where a global holds a number, it is at first one of its width
+abbrev pub IsConstant : ValType → ConstExpr → Type 0
+IsConstant I32 (constants.I32 n) = Unit {0}
+IsConstant I32 init = ⊥
+IsConstant I64 (constants.I64 n) = Unit {0}
+IsConstant I64 init = ⊥
+IsConstant type init = Unit {0}
+
+-- All globals may be set, those that a module has and those that it imports, so that these are of
+-- one mutability.
+abbrev pub IsGlobal : DefinedGlobal → Type 0
+IsGlobal g = (g.global_type.mutable ≡ true) × IsConstant g.global_type.val_type g.init
+
+abbrev pub IsImported : EntityType → Type 0
+IsImported (entities.Table t) = IsTable t
+IsImported (entities.Global g) = g.mutable ≡ true
+IsImported item = Unit {0}
+
+abbrev pub AreEntriesTyped : Section → Type 0
+AreEntriesTyped (sections.Imports entries) = AllByRecursion (λ (i : Import). IsImported i.entity) entries
+AreEntriesTyped (sections.Tables tables) = AllByRecursion IsTable tables
+AreEntriesTyped (sections.Globals globals) = AllByRecursion IsGlobal globals
+AreEntriesTyped section = Unit {0}
+
+-- the functions to which the bodies of a section make references
+abbrev pub referred : Instruction → List ℕ
+referred (RefFunc function) = function ∷ []
+referred instruction = []
+
+abbrev pub section_refers : Section → List ℕ
+section_refers (sections.Code bodies) = flat_map (λ (b : Body). flat_map referred b.instructions) bodies
+section_refers section = []
+
+-- those that its segments have
+abbrev pub segment_functions : ElementSegment → List ℕ
+segment_functions (segments.Active table offset functions) = functions
+segment_functions (segments.Declared functions) = functions
+
+abbrev pub section_declares : Section → List ℕ
+section_declares (sections.Elements parts) = flat_map segment_functions parts
+section_declares section = []
+
+-- The sections of a module, which exports nothing twice, whose entries have the types that they
+-- need, and which makes references only to functions of its segments.
 pub record AreSections (debug_names : Bool) (ss : List Section) : Type 0 where
   pub ordered : AreSectionsAfter 0 debug_names ss
   pub once : IsDistinct bytes_eq (map (λ (e : Export). e.name) (flat_map section_exports ss))
+  pub typed : AllByRecursion AreEntriesTyped ss
+  pub declared : AllByRecursion (Contains (flat_map section_declares ss)) (flat_map section_refers ss)
 
 -- the number of a module, where there is one, and the number after it
 abbrev numbered : {A : Type 0} → ℕ → Option A → List ℕ

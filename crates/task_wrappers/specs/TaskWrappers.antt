@@ -1,6 +1,6 @@
 -- Which functions of user modules are called with main's task hook round them, in order, and what each is (this
 -- project's own; Canonical ABI: `canon lift`, with its options `post-return`, `callback` and `realloc`).
-use Rattle.std.specs.Prelude.{ℕ, Bool, true, false, List, [], ◌∷◌, ◌++◌, map, Option, Some, None, is_some, if◌then◌else◌}
+use Rattle.std.specs.Prelude.{ℕ, List, [], ◌∷◌, ◌++◌, Option, Some, None, is_some, if◌then◌else◌}
 use Rattle.std.specs.List.{flat_map}
 use Rattle.core_runs.specs.declared.bracket.Bracketed.{Bracketed}
 use Rattle.core_runs.specs.declared.bracket.Bracketed.TheVariants as brackets

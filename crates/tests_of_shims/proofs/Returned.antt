@@ -33,11 +33,12 @@ from : (r : Resolve) (imports : List NamedImport) → AllByRecursion (Owned r) (
 from r [] h = tt
 from r (i ∷ is) h = (h.0, from r is h.1)
 
--- the imports of a module, as they are borrowed
-pub of_imports : (r : Resolve) (imports : List NamedImport) (all : List CoreImport) (b : Bool) → map core_import imports ≡ all →
-    IsTrue b ↔ AllByRecursion (λ (i : NamedImport). HasReturned r i.role.now) imports → IsTrue b ↔ AllByRecursion (λ (i : CoreImport). HasReturned r i.role) all
-of_imports r imports all b e h =
-    subst (λ (xs : List CoreImport). IsTrue b ↔ AllByRecursion (Owned r) xs) e (λ t. to r imports (h.0 t), λ a. h.1 (from r imports a))
+-- the imports of a module, as they are borrowed from a list
+pub of_imports : (r : Resolve) (imports slice : List NamedImport) (all : List CoreImport) (b : Bool) → map core_import imports ≡ all → slice ≡ imports →
+    IsTrue b ↔ AllByRecursion (λ (i : NamedImport). HasReturned r i.role.now) slice → IsTrue b ↔ AllByRecursion (λ (i : CoreImport). HasReturned r i.role) all
+of_imports r imports slice all b e same h =
+    let of : IsTrue b ↔ AllByRecursion (Borrowed r) imports = subst (λ (xs : List NamedImport). IsTrue b ↔ AllByRecursion (Borrowed r) xs) same h in
+    subst (λ (xs : List CoreImport). IsTrue b ↔ AllByRecursion (Owned r) xs) e (λ t. to r imports (of.0 t), λ a. of.1 (from r imports a))
 
 abbrev pub IsOwned : Resolve → ValidatedModule → Type 0
 IsOwned r m = AllByRecursion (λ (i : CoreImport). HasReturned r i.role) (imports_of m)

@@ -36,7 +36,6 @@ fn have_returned(resolve: &Resolve, imports: &[NamedImport<'_>]) -> bool
 }
 
 /// Whether those of a module are there.
-#[tactic(auto, using(crate::proofs::Returned::of_imports))]
 fn is_returned(
     alloc: Global,
     resolve: &Resolve,
