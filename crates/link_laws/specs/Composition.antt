@@ -107,7 +107,7 @@ AreLimits least (Some most) = least ≤ most
 abbrev pub IsTable : TableType → Type 0
 IsTable t = (t.element_type ≡ FuncRef) × AreLimits t.minimum t.maximum
 
--- where a global holds a number, it is at first one of its width
+-- where a global holds an integer, it is at first one of its width
 abbrev pub IsConstant : ValType → ConstExpr → Type 0
 IsConstant I32 (constants.I32 n) = Unit {0}
 IsConstant I32 init = ⊥
