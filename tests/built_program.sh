@@ -51,7 +51,7 @@ holds() {
     if cmp -s "$2" "$3"; then echo "ok: $1"; else echo "FAILED: $1"; failed=1; fi
 }
 
-usage='usage: component_new new OUT MAIN [options] | record OUT MODULE | defs FILE | links FILE | explain CODE'
+usage='usage: component_new new OUT MAIN [options] | lint MAIN [options] | record OUT MODULE | defs FILE | links FILE | explain CODE'
 expect 'a module with its record' 0 '' new made.wasm main.wasm
 holds 'its component' made.wasm "$top/examples/component.wasm"
 expect 'the empty module' 0 '' new empty_made.wasm empty.wasm
@@ -203,8 +203,8 @@ if [ "$got" -eq 1 ] && cmp -s err line; then echo 'ok: a full output'; else echo
 if [ "$(cat status)" -eq 1 ] && [ ! -s err ]; then echo 'ok: an output that nobody reads'; else echo 'FAILED: an output that nobody reads'; failed=1; fi
 
 cat >help <<'HELP'
-usage: component_new new OUT MAIN [options] | record OUT MODULE | defs FILE | links FILE | explain CODE
-  --adapt NAME=FILE  new: add the adapter in FILE under this name; any number of times
+usage: component_new new OUT MAIN [options] | lint MAIN [options] | record OUT MODULE | defs FILE | links FILE | explain CODE
+  --adapt NAME=FILE  new, lint: add the adapter in FILE under this name; any number of times
   --canonical        new: have the canonical part of versions in names, and the rest as suffixes
   --dot, --mermaid   links: print a graph, in the language of Graphviz or of Mermaid
   --no-merge         new: don't merge imports of compatible versions
@@ -278,6 +278,17 @@ prints 'the links of a core module' 1 none 'error: C2 Grammar place=0' links mai
 prints 'the links of no file' 1 none 'error: read "none.wasm"' links none.wasm
 expect 'no FILE of links' 2 "$usage" links
 expect 'another form of links' 2 "$usage" links main.wasm --text
+
+# What validators refuse, found before there is a component.
+for example in main counters/main downloads/main log/main people/main search/main squares/main store/main strings/main visitors/main; do
+    expect "$example: no warnings" 0 '' lint "$top/examples/$example.wasm"
+done
+expect 'no warnings of an adapter' 0 '' lint "$top/examples/lines/main.wasm" --adapt "lines=$top/examples/lines/adapter.wasm"
+printf 'L10 NoRecord "main"\nL10 NoRecord "a"\n' >warned
+prints 'warnings of a module and an adapter' 1 warned '' lint empty.wasm --adapt a=empty.wasm
+prints 'warnings of a component' 1 none 'error: E3 Lower: P2 NotModule' lint "$top/examples/component.wasm"
+expect 'no MAIN of lint' 2 "$usage" lint
+expect 'a flag of another command behind MAIN' 2 "$usage" lint main.wasm --validate
 
 not_text=$(printf 'a\377b')
 expect 'a FILE that is not UTF-8' 2 'error: argument 2 is not UTF-8' defs "$not_text"

@@ -1,11 +1,12 @@
 // Calls between JavaScript and core functions, by the Canonical ABI: synchronous ones, and what event_loop.js has in common with them. A
 // type is the name of a primitive one, or an object with one member that says its form: `list`, `option`, `own` and `borrow`
 // have one type or resource, `tuple` a list of types, `record` and `variant` a list of `{ name, type }`, `enum` and `flags` a
-// list of labels, and `result` has `{ ok, err }`, each a type or null. The type of a function is
+// list of labels, `stream` a type or null, and `result` has `{ ok, err }`, each a type or null. The type of a function is
 // `{ params: [{ name, type }], result: type or null }`.
 //
 // In JavaScript an option that is none is null, an enum is its label, flags are the list of those that are set, and a variant or
-// a result is an object with one member, its case. `options` are those of one call: `memory`, `realloc`, `postReturn`.
+// a result is an object with one member, its case. `options` are those of one call: `memory`, `realloc`, `postReturn`, and `ends`,
+// by which a stream gets an index in a component and loses it.
 'use strict';
 
 // the accessor of a view that reads or writes a primitive value
@@ -21,7 +22,7 @@ const MOST_RESULTS = 1;
 const MOST_FLAGS = 32;
 const roundUp = (at, alignment) => Math.ceil(at / alignment) * alignment;
 const bytesOf = accessor => Number(accessor.match(/\d+$/)[0]) / 8;
-const isHandle = type => type.own !== undefined || type.borrow !== undefined;
+const isIndex = type => type.own !== undefined || type.borrow !== undefined || type.stream !== undefined;
 
 // What a type is a shorter form of (Canonical ABI: despecialize): the fields of a record, and the cases of a variant.
 const fieldsOf = type => type.record ?? type.tuple?.map((of, i) => ({ name: i, type: of }));
@@ -48,7 +49,7 @@ const flagsAccessor = type => {
 const accessorOf = type => NUMBERS[type] ?? (type.flags === undefined ? undefined : flagsAccessor(type));
 const alignmentOf = type => {
   if (accessorOf(type) !== undefined) return bytesOf(accessorOf(type));
-  if (type === 'string' || type.list !== undefined || isHandle(type)) return 4;
+  if (type === 'string' || type.list !== undefined || isIndex(type)) return 4;
   if (fieldsOf(type) !== undefined) return Math.max(1, ...fieldsOf(type).map(field => alignmentOf(field.type)));
   if (casesOf(type) === undefined) throw new Error(`no values of the type ${JSON.stringify(type)} are passed here`);
   return Math.max(bytesOf(caseAccessor(type)), ...payloadsOf(type).map(alignmentOf));
@@ -56,7 +57,7 @@ const alignmentOf = type => {
 // how far behind its beginning a variant has what its case holds
 const payloadOffset = type => roundUp(bytesOf(caseAccessor(type)), Math.max(1, ...payloadsOf(type).map(alignmentOf)));
 const sizeOf = type => {
-  if (accessorOf(type) !== undefined || isHandle(type)) return alignmentOf(type);
+  if (accessorOf(type) !== undefined || isIndex(type)) return alignmentOf(type);
   if (type === 'string' || type.list !== undefined) return 8;
   const end = fieldsOf(type) === undefined
     ? payloadOffset(type) + Math.max(0, ...payloadsOf(type).map(sizeOf))
@@ -94,7 +95,7 @@ const joined = (one, other) => {
 const flatTypes = type => {
   if (type === 's64' || type === 'u64') return ['i64'];
   if (type === 'f32' || type === 'f64') return [type];
-  if (accessorOf(type) !== undefined || isHandle(type)) return ['i32'];
+  if (accessorOf(type) !== undefined || isIndex(type)) return ['i32'];
   if (type === 'string' || type.list !== undefined) return ['i32', 'i32'];
   if (fieldsOf(type) !== undefined) return fieldsOf(type).flatMap(field => flatTypes(field.type));
   const shared = [];
@@ -144,7 +145,7 @@ const read = (options, type, at) => {
   if (casesOf(type) !== undefined) {
     return caseOf(type, view[`get${caseAccessor(type)}`](at, true), payload => read(options, payload, at + payloadOffset(type)));
   }
-  if (isHandle(type)) return lift(options, type, [view.getUint32(at, true)]);
+  if (isIndex(type)) return lift(options, type, [view.getUint32(at, true)]);
   return lift(options, type, [view.getUint32(at, true), view.getUint32(at + 4, true)]);
 };
 // a number as one of a type has it, whose other bits don't count
@@ -160,6 +161,7 @@ const lift = (options, type, values) => {
   if (fieldsOf(type) !== undefined) return recordOf(type, fieldsOf(type), field => lift(options, field.type, values));
   if (type.own !== undefined) return type.own.taken(values.shift());
   if (type.borrow !== undefined) return type.borrow.lent(values.shift());
+  if (type.stream !== undefined) return options.ends.taken(type, values.shift());
   if (casesOf(type) !== undefined) {
     const [number, ...shared] = values.splice(0, flatTypes(type).length);
     const of = payload => flatTypes(payload).map((core, i) => recast(shared[i], flatTypes(type)[i + 1], core));
@@ -194,9 +196,11 @@ const writtenText = (options, text) => {
   new Uint8Array(options.memory.buffer).set(bytes, at);
   return [at, bytes.length];
 };
+const writeItems = (options, type, start, list) =>
+  Array.from(list).forEach((value, i) => write(options, type, start + i * sizeOf(type), value));
 const writtenList = (options, type, list) => {
   const start = allocated(options, alignmentOf(type), list.length * sizeOf(type));
-  Array.from(list).forEach((value, i) => write(options, type, start + i * sizeOf(type), value));
+  writeItems(options, type, start, list);
   return [start, list.length];
 };
 const write = (options, type, at, value) => {
@@ -216,6 +220,7 @@ const lower = (options, type, value) => {
   if (type.list !== undefined) return writtenList(options, type.list, value);
   if (type.own !== undefined) return [type.own.given(value)];
   if (type.borrow !== undefined) return [type.borrow.shown(value)];
+  if (type.stream !== undefined) return [options.ends.given(type, value)];
   if (fieldsOf(type) !== undefined) return fieldsOf(type).flatMap(field => lower(options, field.type, value[field.name]));
   const { number, payload, held } = takenApart(type, value);
   const values = payload === null ? [] : lower(options, payload, held);
@@ -275,4 +280,11 @@ const lowered = (call, options, type) => {
   };
 };
 
-module.exports = { MOST_PARAMETERS, checkEncoding, lifted, liftFlatValues, lowered, lowerFlatValues, paramTypes, store };
+// Values of a type in memory, one after the other from an address on.
+const checkedItems = (options, type, address, length) => checked(options, address, alignmentOf(type), length * sizeOf(type));
+const readItems = (options, type, start, first, count) => readList(options, type, start + first * sizeOf(type), count);
+const storeItems = (options, type, start, first, list) => writeItems(options, type, start + first * sizeOf(type), list);
+
+module.exports = {
+  MOST_PARAMETERS, checkEncoding, checkedItems, lifted, liftFlatValues, lowered, lowerFlatValues, paramTypes, readItems, store, storeItems,
+};

@@ -34,7 +34,7 @@ CASES_TABLE = re.compile(re.escape(CASES_HEAD) + r"(\|.*\n)*")
 LEFT_OUT_HEAD = "| What | Cases |\n|---|---|\n"
 THEOREM = "comp_encoder/specs/Component"
 REFUSALS = {"comp_encoder/specs/Refusals", "comp_encoder/specs/Outputs", "comp_encoder/specs/CanonicalNames", "core_options/specs/Causes", "comp_worlds/specs/Bases", "comp_worlds/specs/Made", "comp_worlds/specs/Absent"}
-MOST_LINES = 3850
+MOST_LINES = 4000
 CLAUSE = re.compile(r"\s*(ensures|requires)\b")
 WIDTH, MOST_WIDE = 100, 23
 USE = re.compile(r"^use Rattle\.(\w+)\.specs\.([\w.]+?)(?:\.\{| as|$)", re.M)
@@ -171,7 +171,7 @@ def explained(code, cause, example, remedy):
 
 
 def texts():
-    rows = sorted(error_rows().items(), key=lambda it: ("ECPFR".index(it[0][0]), int(it[0][1:])))
+    rows = sorted(error_rows().items(), key=lambda it: ("ECPFRL".index(it[0][0]), int(it[0][1:])))
     return TEXTS_HEAD + "".join("\n" + explained(code, *cells) for code, cells in rows)
 
 

@@ -2,17 +2,21 @@
 // subtasks of imported ones, the sets of subtasks for which a task waits, and the loop that calls callbacks.
 //
 // A function of a component is called here with two functions: `onStart` answers its parameters, and `onResolve` is given its result,
-// now or later. Not here: what suspends core code in its middle, such as `waitable-set.wait`, and cancellation, backpressure, streams
-// and futures.
+// now or later. Streams are in streams.js. Not here: what suspends core code in its middle, such as `waitable-set.wait`, and
+// cancellation, backpressure and futures.
 'use strict';
 const { isDeepStrictEqual } = require('util');
 const { MOST_PARAMETERS, checkEncoding, liftFlatValues, lowerFlatValues, paramTypes, store: storeValue } = require('./canonical_abi.js');
 
 const MOST_ASYNC_PARAMETERS = 4;
-const EventCode = { NONE: 0, SUBTASK: 1 };
+const EventCode = { NONE: 0, SUBTASK: 1, STREAM_READ: 2, STREAM_WRITE: 3 };
 const CallbackCode = { EXIT: 0, YIELD: 1, WAIT: 2 };
 const State = { STARTING: 0, STARTED: 1, RETURNED: 2 };
+const CopyResult = { COMPLETED: 0, DROPPED: 1 };
 const nameOf = (names, number) => Object.keys(names)[number];
+// what has come of a read or a write of a stream, as one number
+const packedCopy = (result, progress) => result | progress << 4;
+const saidCopy = packed => `${packed >>> 4} ${nameOf(CopyResult, packed & 15)}`;
 
 const trapIf = (condition, why) => {
   if (condition) throw new WebAssembly.RuntimeError(why);
@@ -39,7 +43,7 @@ class Store {
   }
 }
 
-// What a component has numbers for, subtasks and sets. None has the number 0.
+// What a component has numbers for: subtasks, sets, and ends of streams. None has the number 0.
 class Table {
   constructor() {
     this.array = [null];
@@ -57,11 +61,17 @@ class Table {
     return index;
   }
 
+  remove(index, Kind) {
+    const element = this.get(index, Kind);
+    this.array[index] = null;
+    this.free.push(index);
+    return element;
+  }
+
   // An element is dropped, unless that traps.
   drop(index, Kind) {
     this.get(index, Kind).drop();
-    this.array[index] = null;
-    this.free.push(index);
+    this.remove(index, Kind);
   }
 }
 
@@ -206,10 +216,10 @@ class Task {
     });
   }
 
-  callBack([code, index, state]) {
-    const what = code === EventCode.SUBTASK ? ` ${index}: ${nameOf(State, state)}` : '';
-    this.told(`is given ${nameOf(EventCode, code)}${what}`);
-    this.goOn(this.run(() => this.options.callback(code, index, state)));
+  callBack([code, index, payload]) {
+    const said = code === EventCode.SUBTASK ? nameOf(State, payload) : saidCopy(payload);
+    this.told(`is given ${nameOf(EventCode, code)}${code === EventCode.NONE ? '' : ` ${index}: ${said}`}`);
+    this.goOn(this.run(() => this.options.callback(code, index, payload)));
   }
 }
 
@@ -277,4 +287,6 @@ const BUILT_INS = {
   'waitable-join': inst => (index, set) => inst.table.get(index, Waitable).join(set === 0 ? null : inst.table.get(set, WaitableSet)),
 };
 
-module.exports = { BUILT_INS, ComponentInstance, Store, canonLift, canonLower, canonTaskReturn };
+module.exports = {
+  BUILT_INS, ComponentInstance, CopyResult, EventCode, Store, Waitable, canonLift, canonLower, canonTaskReturn, packedCopy, saidCopy, trapIf,
+};

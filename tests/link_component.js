@@ -2,6 +2,7 @@
 'use strict';
 const { lifted, lowered } = require('./canonical_abi.js');
 const { BUILT_INS, ComponentInstance, Store, canonLift, canonLower, canonTaskReturn } = require('./event_loop.js');
+const { Ends, STREAM_BUILT_INS } = require('./streams.js');
 
 // The handles of a resource that a component has, by their numbers, each with what it represents. None has the number 0.
 class Handles {
@@ -94,6 +95,7 @@ const resolved = (type, types) => {
   if (type.record !== undefined) return { record: fields(type.record) };
   if (type.own !== undefined) return { own: types[type.own] };
   if (type.borrow !== undefined) return { borrow: types[type.borrow] };
+  if (type.stream !== undefined) return { stream: resolved(type.stream, types) };
   if (type.params !== undefined) return { params: fields(type.params), result: resolved(type.result, types), async: type.async };
   if (type.result !== undefined) return { result: { ok: resolved(type.result.ok, types), err: resolved(type.result.err, types) } };
   if (type.members !== undefined) return instanceType(type.members, types);
@@ -158,6 +160,7 @@ const callsOf = functions => Object.fromEntries(Object.entries(functions).map(([
 // both sides, are called as event_loop.js says, and go on by the ticks of `store`.
 const linked = (definitions, outside, seen = () => {}, store = new Store()) => {
   const inst = new ComponentInstance(store);
+  const ends = new Ends(inst);
   const modules = [];
   const coreInstances = [];
   const core = { func: [], table: [], memory: [], global: [] };
@@ -174,7 +177,7 @@ const linked = (definitions, outside, seen = () => {}, store = new Store()) => {
   // the functions and the memory that options name
   const named = ({ memory, realloc, postReturn, callback, ...others }) => {
     const functions = { realloc: core.func[realloc], postReturn: core.func[postReturn], callback: core.func[callback] };
-    return { memory: core.memory[memory], ...functions, ...others };
+    return { memory: core.memory[memory], ends, ...functions, ...others };
   };
 
   const coreSteps = {
@@ -208,8 +211,10 @@ const linked = (definitions, outside, seen = () => {}, store = new Store()) => {
       items.func.push({ type, call });
     },
   };
-  const builtIns = Object.entries(BUILT_INS).map(([name, of]) => [name, definition => core.func.push(of(inst, definition))]);
-  const all = { ...steps, ...coreSteps, ...Object.fromEntries(builtIns) };
+  const plain = Object.entries(BUILT_INS).map(([name, of]) => [name, definition => core.func.push(of(inst, definition))]);
+  const ofStreams = Object.entries(STREAM_BUILT_INS).map(([name, of]) =>
+    [name, ({ type, options }) => core.func.push(of(inst, items.type[type], options && named(options)))]);
+  const all = { ...steps, ...coreSteps, ...Object.fromEntries([...plain, ...ofStreams]) };
   for (const definition of definitions) all[definition.define](definition);
   const instances = Object.entries(exported.instance).map(([name, { func }]) => [name, callsOf(func)]);
   return { exports: { ...callsOf(exported.func), ...Object.fromEntries(instances) }, lowerings };

@@ -97,6 +97,7 @@ const definedType = from => {
   if (form === 0x72) return { record: from.list(field) };
   if (form === 0x69) return { own: from.number() };
   if (form === 0x68) return { borrow: from.number() };
+  if (form === 0x66) return { stream: optionalType(from) };
   if (form === 0x70) return { list: valueType(from) };
   if (form === 0x6f) return { tuple: from.list(valueType) };
   if (form === 0x6e) return { flags: from.list(() => from.name()) };
@@ -164,18 +165,26 @@ const options = from => {
 };
 const CANONICAL = {
   0x00: 'lift', 0x01: 'lower', 0x02: 'resource-new', 0x03: 'resource-drop', 0x04: 'resource-rep', 0x09: 'task-return',
-  0x0a: 'context-get', 0x0b: 'context-set', 0x0d: 'subtask-drop', 0x1f: 'waitable-set-new', 0x22: 'waitable-set-drop',
+  0x0a: 'context-get', 0x0b: 'context-set', 0x0d: 'subtask-drop', 0x0e: 'stream-new', 0x0f: 'stream-read', 0x10: 'stream-write',
+  0x13: 'stream-drop-readable', 0x14: 'stream-drop-writable', 0x1f: 'waitable-set-new', 0x22: 'waitable-set-drop',
   0x23: 'waitable-join',
 };
 const slot = from => {
   from.expect(0x7f);
   return { slot: from.number() };
 };
+const ofType = from => ({ type: from.number() });
+const ofTypeWithOptions = from => ({ type: from.number(), options: options(from) });
 // what a canonical function has behind its byte, where it has anything
 const OPERANDS = {
-  'resource-new': from => ({ type: from.number() }),
-  'resource-drop': from => ({ type: from.number() }),
-  'resource-rep': from => ({ type: from.number() }),
+  'resource-new': ofType,
+  'resource-drop': ofType,
+  'resource-rep': ofType,
+  'stream-new': ofType,
+  'stream-read': ofTypeWithOptions,
+  'stream-write': ofTypeWithOptions,
+  'stream-drop-readable': ofType,
+  'stream-drop-writable': ofType,
   'task-return': from => ({ result: resultType(from), options: options(from) }),
   'context-get': slot,
   'context-set': slot,

@@ -6,6 +6,7 @@ const { readComponent } = require('./read_component.js');
 const { Store } = require('./event_loop.js');
 const { linked } = require('./link_component.js');
 const { runDownloads } = require('./run_downloads.js');
+const { runLetters } = require('./run_letters.js');
 const { holds, runAll, traps } = require('./checks.js');
 
 const MAIN = 0;
@@ -157,10 +158,13 @@ const runStore = (name, file) => {
   holds(`${name}: the other bucket is there`, get(other, 'key'), []);
 };
 
+const runStreams = (name, file) =>
+  runLetters(name, (outside, store) => linked(readComponent(fs.readFileSync(file)), outside, () => {}, store).exports);
+
 const runAsynchronous = (name, file) => runDownloads(name, (outside, store) => withShim(name, file, outside, '$root', 'fetch', store));
 
 const RUNS = {
   main: runMain, strings: runStrings, log: runLog, squares: runSquares, people: runPeople, search: runSearch, counters: runCounters,
-  lines: runLines, store: runStore, downloads: runAsynchronous,
+  lines: runLines, store: runStore, downloads: runAsynchronous, letters: runStreams,
 };
 runAll(RUNS, process.argv.slice(2));

@@ -28,7 +28,7 @@ adapters() {
 }
 
 kept="main=$top/examples/component.wasm" anew=
-for example in strings log squares people search counters lines store downloads; do
+for example in strings log squares people search counters lines store downloads letters; do
     from=$top/examples/$example made=$folder/$example
     mkdir "$made"
     check "$example: the kept module's component is made" "$program" new "$made/kept.wasm" "$from/main.wasm" $(adapters "$example" "$from")
@@ -40,6 +40,7 @@ done
 
 echo "node $(node --version), the loop for asynchronous functions:"
 check 'it traps where it must' node "$here/test_event_loop.js"
+check 'streams do' node "$here/test_streams.js"
 echo 'the components that are kept:'
 check 'they run' node "$here/run_components.js" $kept
 echo 'those of modules compiled anew:'

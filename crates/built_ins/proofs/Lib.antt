@@ -1,1 +1,2 @@
+pub mod PayloadParts
 pub mod Typed

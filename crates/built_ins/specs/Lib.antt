@@ -1,1 +1,2 @@
 pub mod BuiltIns
+pub mod Payloads

@@ -6,3 +6,4 @@ mod Words
 mod Refusing
 mod Recorded
 mod Shown
+mod Warning

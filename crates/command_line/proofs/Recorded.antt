@@ -64,6 +64,8 @@ module _ {F : Type 0} where
   none_of_recording given (faults.Write name) h = absurd (cc)
   none_of_recording given faults.Out h = refl
   none_of_recording given faults.Closed h = refl
+  none_of_recording given (faults.Lint f) h = refl
+  none_of_recording given faults.Warned h = refl
   none_of_recording given (faults.Check f) h = refl
 
   reported_later : (bytes : List ℕ) (more : List Event) (r : Result (List ℕ) (RunFault F)) → (more ≡ []) × IsRecordOf bytes r → device_faults more ≡ reported_faults r

@@ -42,6 +42,8 @@ module _ {L B F : Type 0} (l : lower.Ghosts L B F) where
       record { events = []; happened = nothing_happened events; did = (refl, refl); counted = refl }
   none_performed layer (Some (requests.Explain text)) events out h =
       record { events = []; happened = nothing_happened events; did = (refl, inr (refl, refl)); counted = refl }
+  none_performed layer (Some (requests.Lint main adapters)) events out h =
+      record { events = []; happened = nothing_happened events; did = record { read = Err no_memory; are_read = refl; lints = (refl, refl) }; counted = refl }
   none_performed layer (Some requests.Help) events out h = absurd h
   none_performed layer (Some requests.Version) events out h = absurd h
 

@@ -54,6 +54,8 @@ module _ {F : Type 0} where
   none_of_reading bytes (faults.Write name) h = absurd (cc)
   none_of_reading bytes faults.Out h = refl
   none_of_reading bytes faults.Closed h = refl
+  none_of_reading bytes (faults.Lint f) h = refl
+  none_of_reading bytes faults.Warned h = refl
 
   none_of_unread : (bytes : List ℕ) (r : Result ⊤ (RunFault F)) → IsErrAnd r (IsUnreadFault bytes) → 0 ≡ reported_faults r
   none_of_unread bytes (Ok x) h = absurd h

@@ -22,6 +22,8 @@ module _ {F : Type 0} where
   reported_text text before after (Err (faults.Write name)) h = absurd h
   reported_text text before after (Err faults.Out) h = refl
   reported_text text before after (Err faults.Closed) h = refl
+  reported_text text before after (Err (faults.Lint f)) h = absurd h
+  reported_text text before after (Err faults.Warned) h = absurd h
   reported_text text before after (Err (faults.Check f)) h = absurd h
   reported_text text before after (Err (faults.Fit f)) h = absurd h
   reported_text text before after (Err (faults.Record f)) h = absurd h
@@ -42,6 +44,8 @@ module _ {F : Type 0} where
       reported (Err (faults.Write name)) h = absurd h
       reported (Err faults.Out) h = refl
       reported (Err faults.Closed) h = refl
+      reported (Err (faults.Lint f)) h = absurd h
+      reported (Err faults.Warned) h = absurd h
       reported (Err (faults.Check f)) h = refl
       reported (Err (faults.Fit f)) h = absurd h
       reported (Err (faults.Record f)) h = absurd h

@@ -159,6 +159,8 @@ module _ {F : Type 0} where
   none_of_fitting m (faults.Write name) h = absurd (cc)
   none_of_fitting m faults.Out h = refl
   none_of_fitting m faults.Closed h = refl
+  none_of_fitting m (faults.Lint f) h = refl
+  none_of_fitting m faults.Warned h = refl
   none_of_fitting m (faults.Check f) h = refl
 
 module _ {L B F : Type 0} (l : lower.Ghosts L B F) where
@@ -170,6 +172,8 @@ module _ {L B F : Type 0} (l : lower.Ghosts L B F) where
   none_of_encoding e m (Err (faults.Write name)) h = absurd h
   none_of_encoding e m (Err faults.Out) h = absurd h
   none_of_encoding e m (Err faults.Closed) h = absurd h
+  none_of_encoding e m (Err (faults.Lint f)) h = absurd h
+  none_of_encoding e m (Err faults.Warned) h = absurd h
   none_of_encoding e m (Err (faults.Fit f)) h = absurd h
   none_of_encoding e m (Err (faults.Record f)) h = absurd h
   none_of_encoding e m (Err (faults.Check f)) h = absurd h

@@ -6,12 +6,13 @@ use Rattle.std.proofs.lemmas.Bool.{false_from_ne_true}
 use Rattle.std.proofs.lemmas.Str.{IsUtf8-from_is_utf8, is_utf8-from_IsUtf8}
 use Rattle.std.specs.Prelude.{Bool, codes, Option, None, option_map, option_and_then, if◌then◌else◌}
 use Rattle.std.specs.Str.{bytes_eq}
+use Rattle.std.proofs.lemmas.Slice.Eq.{bytes_eq-Decides}
 use Rattle.explanations.specs.Codes.{explanation}
 use Rattle.found_links.specs.declared.forms.Form.{Form}
 use Rattle.found_links.specs.declared.forms.Form.TheVariants as forms
 use Rattle.command_line.specs.Adapters.{adapter_words, flag_words, adapters_of}
-use Rattle.command_line.specs.Arguments.{of_two_words, request_of, making, form_of, of_new, of_record, of_links, of_files, is_listing}
-use Rattle.command_line.specs.Flags.{flags_of}
+use Rattle.command_line.specs.Arguments.{of_two_words, request_of, other_request, making, form_of, of_new, of_record, of_links, of_files, linting, of_lint, is_lint, is_listing}
+use Rattle.command_line.specs.Flags.{flags_of, are_unset}
 use Rattle.command_line.specs.declared.adapters.Adapter.{Adapter}
 use Rattle.command_line.specs.declared.arguments.Request.{Request}
 use Rattle.command_line.specs.declared.flags.Flags.{Flags}
@@ -69,11 +70,48 @@ not_listed command first second words =
     (new_is_none first second (flags_of (flag_words words)) (adapters_of (adapter_words words))) (record_is_none first second words) (links_is_none first second words)
 
 pub both_listed : {X : Type 0} (f : X → List ℕ) (words : List X) (command : X) → 2 ≤ length words → length words < 3 → command ≡ get_or words 0 command
-    → is_listing (request_of (map f words)) ≡ bytes_eq (f command) (codes "defs")
+    → is_listing (other_request (map f words)) ≡ bytes_eq (f command) (codes "defs")
 both_listed f [] command many few is = absurd (omega (arith, many))
 both_listed f (x ∷ []) command many few is = absurd (omega (arith, many))
 both_listed f (x ∷ y ∷ []) command many few is = listed (f x) (f y) ∙ ap (λ (c : _). bytes_eq (f c) (codes "defs")) (sym is)
 both_listed f (x ∷ y ∷ z ∷ rest) command many few is = absurd (omega (arith, few))
+
+flags_are_none : (main : List ℕ) (adapters : List Adapter) (b : Bool) → is_listing (if b then Some (requests.Lint main adapters) else None) ≡ false
+flags_are_none main adapters true = refl
+flags_are_none main adapters false = refl
+
+main_is_none : (main : List ℕ) (flags : Option Flags) (adapters : Option (List Adapter)) → is_listing (option_and_then (λ a. option_and_then (linting main a) flags) adapters) ≡ false
+main_is_none main (Some f) (Some a) = flags_are_none main a (are_unset f)
+main_is_none main None (Some a) = refl
+main_is_none main flags None = refl
+
+lint_is_none : (words : List (List ℕ)) → is_listing (of_lint words) ≡ false
+lint_is_none [] = refl
+lint_is_none (command ∷ []) = refl
+lint_is_none (command ∷ main ∷ words) = main_is_none main (flags_of (flag_words words)) (adapters_of (adapter_words words))
+
+one_word_is_none : (a b c d : Bool) → is_listing (if a then Some requests.Help else (if b then Some requests.Help else (if c then Some requests.Help else (if d then Some requests.Version else None)))) ≡ false
+one_word_is_none true b c d = refl
+one_word_is_none false true c d = refl
+one_word_is_none false false true d = refl
+one_word_is_none false false false true = refl
+one_word_is_none false false false false = refl
+
+-- words that begin with `lint` don't ask for the definitions of a component
+lint_not_listed : (words : List (List ℕ)) → is_lint words ≡ true → is_listing (other_request words) ≡ false
+lint_not_listed [] is = refl
+lint_not_listed (word ∷ []) is =
+    one_word_is_none (bytes_eq word (codes "--help")) (bytes_eq word (codes "-h")) (bytes_eq word (codes "help")) (bytes_eq word (codes "--version"))
+lint_not_listed (command ∷ word ∷ []) is =
+    listed command word ∙ ap (λ (c : List ℕ). bytes_eq c (codes "defs")) ((bytes_eq-Decides command (codes "lint")).0 is)
+lint_not_listed (command ∷ first ∷ second ∷ words) is = not_listed command first second words
+
+pub as_others : (words : List (List ℕ)) → is_listing (request_of words) ≡ is_listing (other_request words)
+as_others words = by (is_lint words) refl
+  where
+    by : (b : Bool) → is_lint words ≡ b → is_listing (if b then of_lint words else other_request words) ≡ is_listing (other_request words)
+    by true is = lint_is_none words ∙ sym (lint_not_listed words is)
+    by false is = refl
 
 module _ {X : Type 0} (f : X → List ℕ) (xs : List X) (i : ℕ) (x : X) (l : i < length xs) (e : x ≡ get_or xs i x) where
   next : drop i xs ≡ x ∷ drop (i + 1) xs

@@ -5,7 +5,7 @@ use Rattle.explanations.specs.Codes.{explanation}
 use Rattle.found_links.specs.declared.forms.Form.{Form}
 use Rattle.found_links.specs.declared.forms.Form.TheVariants as forms
 use Rattle.command_line.specs.Adapters.{adapter_words, flag_words, adapters_of}
-use Rattle.command_line.specs.Flags.{flags_of}
+use Rattle.command_line.specs.Flags.{flags_of, are_unset}
 use Rattle.command_line.specs.declared.adapters.Adapter.{Adapter}
 use Rattle.command_line.specs.declared.arguments.Request.{Request}
 use Rattle.command_line.specs.declared.arguments.Request.TheVariants as requests
@@ -56,15 +56,39 @@ of_files command first second words =
     else (if bytes_eq command (codes "record") then of_record first second words
     else (if bytes_eq command (codes "links") then of_links first second words else None))
 
--- what the words after the program's name ask for: help or the version; or `defs` with a file, or
--- `explain` with a code; or `new` with the component's file and the module's, and then flags and
--- adapters; or `record` with the file that is written and the module's; or `links` with a file, and
--- the flag of a form
+-- what words ask for: help or the version; or `defs` with a file, or `explain` with a code; or `new`
+-- with the component's file and the module's, and then flags and adapters; or `record` with the file
+-- that is written and the module's; or `links` with a file, and the flag of a form
+abbrev pub other_request : List (List ℕ) → Option Request
+other_request (word ∷ []) = of_one_word word
+other_request (command ∷ word ∷ []) = of_two_words command word
+other_request (command ∷ first ∷ second ∷ words) = of_files command first second words
+other_request _ = None
+
+abbrev pub linting : List ℕ → List Adapter → Flags → Option Request
+linting main adapters flags = if are_unset flags then Some (requests.Lint main adapters) else None
+
+-- what `lint` asks for with the module's file and these words behind it: adapters
+abbrev pub of_main : List ℕ → List (List ℕ) → Option Request
+of_main main words = option_and_then (λ adapters. option_and_then (linting main adapters) (flags_of (flag_words words))) (adapters_of (adapter_words words))
+
+-- the same, where the file is the first of the words
+abbrev pub behind_lint : List (List ℕ) → Option Request
+behind_lint [] = None
+behind_lint (main ∷ words) = of_main main words
+
+-- the same with `lint` before it
+abbrev pub of_lint : List (List ℕ) → Option Request
+of_lint [] = None
+of_lint (command ∷ words) = behind_lint words
+
+abbrev pub is_lint : List (List ℕ) → Bool
+is_lint [] = false
+is_lint (command ∷ words) = bytes_eq command (codes "lint")
+
+-- what the words after the program's name ask for: `lint` with a module's file and adapters, or another command
 abbrev pub request_of : List (List ℕ) → Option Request
-request_of (word ∷ []) = of_one_word word
-request_of (command ∷ word ∷ []) = of_two_words command word
-request_of (command ∷ first ∷ second ∷ words) = of_files command first second words
-request_of _ = None
+request_of words = if is_lint words then of_lint words else other_request words
 
 -- files are named, or a text is asked for, so that memory is needed for the names or the text
 abbrev pub NeedsMemory : Option Request → Type 0
@@ -73,6 +97,7 @@ NeedsMemory (Some (requests.Defs file)) = ⊤
 NeedsMemory (Some (requests.Record out file)) = ⊤
 NeedsMemory (Some (requests.Links file form)) = ⊤
 NeedsMemory (Some (requests.Explain text)) = ⊤
+NeedsMemory (Some (requests.Lint main adapters)) = ⊤
 NeedsMemory _ = ⊥
 
 -- whether the definitions of a component are asked for

@@ -1,22 +1,24 @@
 -- Why a run fails, and with which exit status. (The program's own.)
-use Rattle.std.specs.Prelude.{ℕ, Bool, true, false, List, ⊤, Result, Ok, Err, if◌then◌else◌}
+use Rattle.std.specs.Prelude.{ℕ, Bool, true, false, ◌&&◌, not, List, ⊤, Result, Ok, Err, if◌then◌else◌}
 use Rattle.comp_check.specs.declared.fault.CheckFault.{CheckFault}
 use Rattle.comp_check.specs.declared.fault.CheckFault.TheVariants as checks
 use Rattle.comp_encoder.specs.declared.fault.EncodeFault.TheVariants as encode_faults
 use Rattle.fitted_modules.specs.declared.fault.ModulesFault.{ModulesFault}
 use Rattle.fitted_modules.specs.declared.fault.ModulesFault.TheVariants as fits
+use Rattle.module_warnings.specs.declared.fault.LintFault.{LintFault}
+use Rattle.module_warnings.specs.declared.fault.LintFault.TheVariants as lints
 use Rattle.recorded_modules.specs.declared.fault.RecordingFault.{RecordingFault}
 use Rattle.recorded_modules.specs.declared.fault.RecordingFault.TheVariants as recordings
 use Rattle.command_line.specs.declared.store.StoreFault.{StoreFault}
 use Rattle.command_line.specs.declared.store.StoreFault.TheVariants as store_faults
 use Rattle.command_line.specs.declared.fault.RunFault.{RunFault}
-use Rattle.command_line.specs.declared.fault.RunFault.TheVariants.{Usage, Read, Write, Out, Closed, Fit, Record, Encode, Check}
+use Rattle.command_line.specs.declared.fault.RunFault.TheVariants.{Usage, Read, Write, Out, Closed, Fit, Record, Lint, Warned, Encode, Check}
 use Rattle.command_line.specs.declared.fault.Written.{Written}
 use Rattle.command_line.specs.declared.fault.Written.TheVariants as written
 use Rattle.std.specs.declared.io.ErrorKind.{ErrorKind}
 use Rattle.std.specs.declared.io.ErrorKind.TheVariants as kinds
 
--- out of memory where a file is made, links are shown, or a code is explained
+-- out of memory where a file is made, links or warnings are shown, or a code is explained
 abbrev pub no_memory : {F : Type 0} → RunFault F
 no_memory = Encode encode_faults.Memory
 
@@ -37,6 +39,11 @@ of_fit f = Fit f
 abbrev pub of_recording : {F : Type 0} → RecordingFault → RunFault F
 of_recording recordings.Memory = no_memory
 of_recording f = Record f
+
+-- out of memory, or why the warnings of modules are not known
+abbrev pub of_linting : {F : Type 0} → LintFault → RunFault F
+of_linting lints.Memory = no_memory
+of_linting f = Lint f
 
 -- out of memory, or why a component whose links are asked for can't be read
 abbrev pub of_unread : {F : Type 0} → CheckFault → RunFault F
@@ -61,6 +68,10 @@ abbrev pub run_written : {F : Type 0} → Written → Result ⊤ (RunFault F)
 run_written written.Whole = Ok tt
 run_written written.Refused = Err Out
 run_written written.Closed = Err Closed
+
+-- the end of a run that writes warnings on standard output, of which there may be none
+abbrev pub run_warned : {F : Type 0} → Bool → Written → Result ⊤ (RunFault F)
+run_warned empty w = if is_whole w && not empty then Err Warned else run_written w
 
 -- 1 where the fault is a refusal of the device
 abbrev pub reported_fault : {F : Type 0} → RunFault F → ℕ

@@ -29,3 +29,7 @@ flags_of words =
       validate = has words (codes "--validate");
     })
     else None
+
+-- whether there are none
+abbrev pub are_unset : Flags → Bool
+are_unset f = not (f.canonical || (f.no_merge || (f.no_names || f.validate)))

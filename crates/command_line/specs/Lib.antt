@@ -9,5 +9,6 @@ pub mod Recording
 pub mod Messages
 pub mod Listing
 pub mod Linking
+pub mod Linting
 pub mod Running
 pub mod Starting

@@ -1,7 +1,7 @@
 -- The lines that report a failure. (The program's own. Of what a line says of a file's name, of
 -- modules that can't be fitted, of a module whose record can't be written, of an encoder's fault or of
 -- a component that can't be read only the beginning is specified here.)
-use Rattle.std.specs.Prelude.{◌≡◌, ℕ, Bool, List, [], ◌++◌, ◌⊎◌, Option, Result, Ok, Err, ⊤, true, false, codes, if◌then◌else◌, IsTrue}
+use Rattle.std.specs.Prelude.{◌≡◌, ◌==◌, ℕ, Bool, List, [], ◌++◌, length, ◌⊎◌, Option, Result, Ok, Err, ⊤, true, false, codes, if◌then◌else◌, IsTrue}
 use Rattle.std.specs.Fmt.{decimal}
 use Rattle.std.specs.Io.KnownBytes.{Appends}
 use Rattle.comp_check.specs.declared.fault.CheckFault.{CheckFault}
@@ -9,15 +9,15 @@ use Rattle.comp_check.specs.declared.fault.CheckFault.TheVariants as checks
 use Rattle.comp_encoder.specs.declared.fault.EncodeFault.{EncodeFault}
 use Rattle.comp_encoder.specs.declared.fault.EncodeFault.TheVariants as encode_faults
 use Rattle.command_line.specs.declared.fault.RunFault.{RunFault}
-use Rattle.command_line.specs.declared.fault.RunFault.TheVariants.{Usage, Read, Write, Out, Closed, Fit, Record, Encode, Check}
+use Rattle.command_line.specs.declared.fault.RunFault.TheVariants.{Usage, Read, Write, Out, Closed, Fit, Record, Lint, Warned, Encode, Check}
 
 abbrev pub usage_line : List ℕ
-usage_line = codes "usage: component_new new OUT MAIN [options] | record OUT MODULE | defs FILE | links FILE | explain CODE\n"
+usage_line = codes "usage: component_new new OUT MAIN [options] | lint MAIN [options] | record OUT MODULE | defs FILE | links FILE | explain CODE\n"
 
 -- a line for each option
 abbrev pub option_lines : List ℕ
 option_lines =
-    codes "  --adapt NAME=FILE  new: add the adapter in FILE under this name; any number of times\n"
+    codes "  --adapt NAME=FILE  new, lint: add the adapter in FILE under this name; any number of times\n"
     ++ codes "  --canonical        new: have the canonical part of versions in names, and the rest as suffixes\n" ++ codes "  --dot, --mermaid   links: print a graph, in the language of Graphviz or of Mermaid\n"
     ++ codes "  --no-merge         new: don't merge imports of compatible versions\n"
     ++ codes "  --no-names         new: don't name the functions of the core modules that are generated\n" ++ codes "  --validate         new: check the names of the component's imports and exports\n"
@@ -74,6 +74,8 @@ IsLineOf memory Out line = line ≡ codes "error: write \"-\"\n"
 IsLineOf memory Closed line = ⊥
 IsLineOf memory (Fit _) line = IsTextOr memory (codes "error: ") line
 IsLineOf memory (Record _) line = IsTextOr memory (codes "error: ") line
+IsLineOf memory (Lint _) line = IsTextOr memory (codes "error: ") line
+IsLineOf memory Warned line = ⊥
 IsLineOf memory (Encode f) line = IsEncodeLine memory f line
 IsLineOf memory (Check f) line = IsCheckLine memory f line
 
@@ -101,7 +103,17 @@ PrintsText text before after (Err Out) = Puts before after text false
 PrintsText text before after (Err Closed) = Puts before after text false
 PrintsText text before after (Err _) = ⊥
 
--- what is printed of a fault: its line, or nothing where nobody reads standard output any more
+-- How the printing of warnings ended: there are none and nothing was written, or all were written, or the writer failed after a
+-- front of them.
+abbrev pub PrintsWarnings : {F : Type 0} → List ℕ → Option (List ℕ) → Option (List ℕ) → Result ⊤ (RunFault F) → Type 0
+PrintsWarnings text before after (Ok x) = ((length text == 0) ≡ true) × Puts before after text true
+PrintsWarnings text before after (Err Warned) = ((length text == 0) ≡ false) × Puts before after text true
+PrintsWarnings text before after (Err Out) = Puts before after text false
+PrintsWarnings text before after (Err Closed) = Puts before after text false
+PrintsWarnings text before after (Err _) = ⊥
+
+-- what is printed of a fault: its line, or nothing where nobody reads standard output any more, or where warnings were printed
 abbrev pub Reports : {F : Type 0} → List ℕ → RunFault F → Option (List ℕ) → Option (List ℕ) → Type 0
 Reports memory Closed before after = after ≡ before
+Reports memory Warned before after = after ≡ before
 Reports memory f before after = Says before after (IsLineOf memory f)

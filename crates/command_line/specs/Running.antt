@@ -5,6 +5,7 @@ use Rattle.command_line.specs.Arguments.{request_of, is_listing}
 use Rattle.command_line.specs.Events.{happen, device_faults}
 use Rattle.command_line.specs.Faults.{no_memory, status_of, reported_faults}
 use Rattle.command_line.specs.Linking.{Linked}
+use Rattle.command_line.specs.Linting.{Linted}
 use Rattle.command_line.specs.Listing.{Listed}
 use Rattle.command_line.specs.Making.{Made}
 use Rattle.command_line.specs.Recording.{Recorded}
@@ -26,7 +27,8 @@ Explained text before after r = PrintsText text before after r ⊎ ((r ≡ Err n
 
 module _ {L B F : Type 0} (l : lower.Ghosts L B F) where
   -- With wrong arguments nothing is read, put or written; with right ones the component, or a module with its
-  -- record, is made and nothing is printed, or a component, its links, what a code means, the help or the version is printed.
+  -- record, is made and nothing is printed, or a component, its links, the warnings of modules, what a code means, the help or the
+  -- version is printed.
   abbrev pub Did : L → Option Request → List Event → Option (List ℕ) → Option (List ℕ) → Result ⊤ (RunFault F) → Type 0
   Did layer None es before after r = (es ≡ []) × (r ≡ Err Usage) × (after ≡ before)
   Did layer (Some (requests.New names)) es before after r = Made l layer names es r × (after ≡ before)
@@ -34,6 +36,7 @@ module _ {L B F : Type 0} (l : lower.Ghosts L B F) where
   Did layer (Some (requests.Defs file)) es before after r = Listed file es before after r
   Did layer (Some (requests.Links file form)) es before after r = Linked file form es before after r
   Did layer (Some (requests.Explain text)) es before after r = (es ≡ []) × Explained text before after r
+  Did layer (Some (requests.Lint main adapters)) es before after r = Linted main adapters es before after r
   Did layer (Some requests.Help) es before after r = (es ≡ []) × PrintsText help_text before after r
   Did layer (Some requests.Version) es before after r = (es ≡ []) × PrintsText version_line before after r
 

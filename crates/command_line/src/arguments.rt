@@ -3,7 +3,7 @@
 ghost use Rattle.std.specs.Prelude.{◌≡◌, map, filter_map, option_map, string_bytes, IfOk, IfErr};
 ghost use Rattle.explanations.specs.Codes.{explanation as text_of};
 ghost use Rattle.command_line.specs.Adapters.{adapter_of, adapter_words};
-ghost use Rattle.command_line.specs.Arguments.{NeedsMemory, request_of, form_of as form_named, of_new, of_record, of_links, of_files, of_one_word, making, is_listing};
+ghost use Rattle.command_line.specs.Arguments.{NeedsMemory, request_of, form_of as form_named, of_new, of_record, of_links, of_files, of_one_word, making, other_request, linting, of_main, behind_lint, of_lint, is_lint, is_listing};
 ghost use Rattle.command_line.specs.declared.arguments.Request.TheVariants as requests;
 
 use crate::adapters::{Adapter, adapters, are_adapters};
@@ -36,6 +36,8 @@ pub(crate) enum Request {
     Links { file: Text, form: Form },
     /// What a code means, and what to do: this text.
     Explain { text: Text },
+    /// The warnings of a module and of adapters.
+    Lint { main: Text, adapters: Seq<Adapter> },
     /// How the program is used.
     Help,
     /// Which version of the program this is.
@@ -218,10 +220,10 @@ impl Request {
         }
     }
 
-    /// What the words after the program's name ask for, where they ask for anything.
-    pub(crate) fn read(alloc: Global, words: &[String]) -> Result<Option<Request>, AllocError>
-        ensures ok { IfOk result (λ r. r ≡ request_of (map string_bytes words.now)) }
-        ensures err { IfErr result (λ _. NeedsMemory (request_of (map string_bytes words.now))) }
+    /// What the words ask for, where they ask for anything but `lint`.
+    fn of_others(alloc: Global, words: &[String]) -> Result<Option<Request>, AllocError>
+        ensures ok { IfOk result (λ r. r ≡ other_request (map string_bytes words.now)) }
+        ensures err { IfErr result (λ _. NeedsMemory (other_request (map string_bytes words.now))) }
     {
         match words {
             [word] => Ok(Request::of_one_word(word.as_str())),
@@ -240,15 +242,109 @@ impl Request {
             _ => Ok(None),
         }
     }
+
+    fn warning(alloc: Global, main: &str, words: &[String]) -> Result<Request, AllocError>
+        ensures { IfOk result (λ r. r ≡ requests.Lint main.now
+            (filter_map adapter_of (adapter_words (map string_bytes words.now)))) }
+    {
+        let named = adapters(alloc, words)?;
+        let main = Text::from_str(alloc, main)?;
+        Ok(Request::Lint {
+            main,
+            adapters: named,
+        })
+    }
+
+    /// What `lint` asks for with these flags, which are none, and the adapters among the words after the file.
+    fn linting(
+        alloc: Global,
+        main: &str,
+        words: &[String],
+        flags: Flags,
+    ) -> Result<Option<Request>, AllocError>
+        ensures ok { IfOk result (λ r. r ≡ linting main.now
+            (filter_map adapter_of (adapter_words (map string_bytes words.now))) flags) }
+        ensures err { IfErr result (λ _. NeedsMemory (linting main.now
+            (filter_map adapter_of (adapter_words (map string_bytes words.now))) flags)) }
+    {
+        if !flags.are_unset() {
+            return Ok(None);
+        }
+        Ok(Some(Request::warning(alloc, main, words)?))
+    }
+
+    /// What `lint` asks for with these words after the file.
+    fn of_main(alloc: Global, main: &str, words: &[String]) -> Result<Option<Request>, AllocError>
+        ensures ok { IfOk result (λ r. r ≡ of_main main.now (map string_bytes words.now)) }
+        ensures err { IfErr result
+            (λ _. NeedsMemory (of_main main.now (map string_bytes words.now))) }
+    {
+        if !are_adapters(words) {
+            return Ok(None);
+        }
+        match Flags::read(words) {
+            Some(flags) => Request::linting(alloc, main, words, flags),
+            None => Ok(None),
+        }
+    }
+
+    /// What `lint` asks for with these words behind it.
+    fn behind_lint(alloc: Global, words: &[String]) -> Result<Option<Request>, AllocError>
+        ensures ok { IfOk result (λ r. r ≡ behind_lint (map string_bytes words.now)) }
+        ensures err { IfErr result (λ _. NeedsMemory (behind_lint (map string_bytes words.now))) }
+    {
+        match words {
+            [] => Ok(None),
+            [main, behind @ ..] => Request::of_main(alloc, main.as_str(), behind),
+        }
+    }
+
+    /// What words of which the first is `lint` ask for.
+    fn of_lint(alloc: Global, words: &[String]) -> Result<Option<Request>, AllocError>
+        ensures ok { IfOk result (λ r. r ≡ of_lint (map string_bytes words.now)) }
+        ensures err { IfErr result (λ _. NeedsMemory (of_lint (map string_bytes words.now))) }
+    {
+        match words {
+            [] => Ok(None),
+            [_command, behind @ ..] => Request::behind_lint(alloc, behind),
+        }
+    }
+
+    /// What the words after the program's name ask for, where they ask for anything.
+    pub(crate) fn read(alloc: Global, words: &[String]) -> Result<Option<Request>, AllocError>
+        ensures ok { IfOk result (λ r. r ≡ request_of (map string_bytes words.now)) }
+        ensures err { IfErr result (λ _. NeedsMemory (request_of (map string_bytes words.now))) }
+    {
+        if is_lint(words) {
+            return Request::of_lint(alloc, words);
+        }
+        Request::of_others(alloc, words)
+    }
 }
 
-/// Whether the words ask for the definitions of a component.
+fn is_lint(words: &[String]) -> bool
+    ensures { result ≡ is_lint (map string_bytes words.now) }
+{
+    match words {
+        [] => false,
+        [command, _behind @ ..] => command.as_str() == "lint",
+    }
+}
+
+/// Whether the words ask for the definitions of a component, where they don't begin with `lint`.
 #[tactic(auto, using(crate::proofs::Words::not_listed))]
-pub(crate) fn is_listing(words: &[String]) -> bool
-    ensures { result ≡ is_listing (request_of (map string_bytes words.now)) }
+fn lists_others(words: &[String]) -> bool
+    ensures { result ≡ is_listing (other_request (map string_bytes words.now)) }
 {
     match words {
         [command, _] => command.as_str() == "defs",
         _ => false,
     }
+}
+
+/// Whether the words ask for the definitions of a component.
+pub(crate) fn is_listing(words: &[String]) -> bool
+    ensures { result ≡ is_listing (request_of (map string_bytes words.now)) }
+{
+    lists_others(words)
 }

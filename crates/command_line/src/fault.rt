@@ -2,13 +2,14 @@
 
 ghost use Rattle.std.specs.Prelude.{◌≡◌, false};
 ghost use Rattle.std.specs.IoError.{error_kind};
-ghost use Rattle.command_line.specs.Faults.{is_whole, of_read, of_fit, of_recording, of_unread, of_put, out_of_memory, run_written, written_of};
+ghost use Rattle.command_line.specs.Faults.{is_whole, of_read, of_fit, of_recording, of_linting, of_unread, of_put, out_of_memory, run_written, run_warned, written_of};
 
 use crate::store::StoreFault;
 use comp_check::CheckFault;
 use comp_encoder::EncodeFault;
 use comp_lists::Text;
 use fitted_modules::ModulesFault;
+use module_warnings::LintFault;
 use recorded_modules::RecordingFault;
 use std::io::{self, ErrorKind};
 
@@ -29,6 +30,10 @@ pub(crate) enum RunFault<F> {
     Fit(ModulesFault),
     /// The module with its record can't be made.
     Record(RecordingFault),
+    /// The warnings of a module or of an adapter are not known.
+    Lint(LintFault),
+    /// There are warnings, and they were written.
+    Warned,
     /// There is no component. Out of memory is reported in this way wherever it occurs, but in
     /// `defs`.
     Encode(EncodeFault<F>),
@@ -78,6 +83,16 @@ pub(crate) fn run_written<F>(written: Written) -> Result<(), RunFault<F>>
     }
 }
 
+/// The end of a run that writes warnings on standard output. `empty` is whether there are none.
+pub(crate) fn run_warned<F>(empty: bool, written: Written) -> Result<(), RunFault<F>>
+    ensures { result ≡ run_warned empty written }
+{
+    if written.is_whole() && !empty {
+        return Err(RunFault::Warned);
+    }
+    run_written(written)
+}
+
 /// The fault of a run that is out of memory.
 pub(crate) fn out_of_memory<F>(listing: bool) -> RunFault<F>
     ensures { result ≡ out_of_memory listing }
@@ -117,6 +132,16 @@ pub(crate) fn recording_fault<F>(fault: RecordingFault) -> RunFault<F>
     match fault {
         RecordingFault::Memory => out_of_memory(false),
         fault => RunFault::Record(fault),
+    }
+}
+
+/// The fault of the run where the warnings of modules are not known.
+pub(crate) fn lint_fault<F>(fault: LintFault) -> RunFault<F>
+    ensures { result ≡ of_linting fault }
+{
+    match fault {
+        LintFault::Memory => out_of_memory(false),
+        fault => RunFault::Lint(fault),
     }
 }
 

@@ -2,7 +2,7 @@
 
 ghost use Rattle.std.specs.Prelude.{◌≡◌, map, string_bytes};
 ghost use Rattle.command_line.specs.Adapters.{flag_words};
-ghost use Rattle.command_line.specs.Flags.{has, is_flag, are_flags, flags_of};
+ghost use Rattle.command_line.specs.Flags.{has, is_flag, are_flags, flags_of, are_unset};
 
 use crate::adapters::is_adapt;
 
@@ -77,5 +77,12 @@ impl Flags {
             no_names: has(words, "--no-names"),
             validate: has(words, "--validate"),
         })
+    }
+
+    /// Whether there are none.
+    pub(crate) fn are_unset(self) -> bool
+        ensures { result ≡ are_unset self }
+    {
+        !(self.canonical || self.no_merge || self.no_names || self.validate)
     }
 }

@@ -3,9 +3,9 @@
 ghost use Rattle.std.specs.Prelude.{◌≡◌, ◌++◌, ℕ, List, IfOk, take, string_bytes, codes};
 ghost use Rattle.std.specs.Io.KnownBytes.{Appends};
 ghost use Rattle.command_line.specs.Faults.{is_whole};
-ghost use Rattle.command_line.specs.Messages.{IsNotTextLine, Puts, PrintsText, Says, IsText, IsTextOr, IsEncodeLine, IsCheckLine, Reports, usage_line, memory_line, memory_line_of, not_text_line};
+ghost use Rattle.command_line.specs.Messages.{IsNotTextLine, Puts, PrintsText, PrintsWarnings, Says, IsText, IsTextOr, IsEncodeLine, IsCheckLine, Reports, usage_line, memory_line, memory_line_of, not_text_line};
 
-use crate::fault::{RunFault, Written, run_written, written_of};
+use crate::fault::{RunFault, Written, run_warned, run_written, written_of};
 use comp_check::CheckFault;
 use comp_encoder::EncodeFault;
 use std::alloc::{AllocError, Global};
@@ -14,12 +14,12 @@ use std::io::Write;
 
 /// The line for arguments that are not those of the program.
 const USAGE: &[u8] =
-    b"usage: component_new new OUT MAIN [options] | record OUT MODULE | defs FILE | links FILE | explain CODE\n";
+    b"usage: component_new new OUT MAIN [options] | lint MAIN [options] | record OUT MODULE | defs FILE | links FILE | explain CODE\n";
 
 /// The text for `--help`: the usage line, and a line for each option.
 pub(crate) const HELP: &[u8] =
-    b"usage: component_new new OUT MAIN [options] | record OUT MODULE | defs FILE | links FILE | explain CODE\n\
-    \x20 --adapt NAME=FILE  new: add the adapter in FILE under this name; any number of times\n\
+    b"usage: component_new new OUT MAIN [options] | lint MAIN [options] | record OUT MODULE | defs FILE | links FILE | explain CODE\n\
+    \x20 --adapt NAME=FILE  new, lint: add the adapter in FILE under this name; any number of times\n\
     \x20 --canonical        new: have the canonical part of versions in names, and the rest as suffixes\n\
     \x20 --dot, --mermaid   links: print a graph, in the language of Graphviz or of Mermaid\n\
     \x20 --no-merge         new: don't merge imports of compatible versions\n\
@@ -67,6 +67,15 @@ pub(crate) fn print<W: Write, F>(out: &mut W, text: &[u8]) -> Result<(), RunFaul
     ensures { PrintsText text.now (W.contents out.old) (W.contents out.new) result }
 {
     run_written(put(out, text))
+}
+
+/// Prints warnings on standard output. The end of the run says whether there are any.
+#[tactic(auto, using(crate::proofs::Warning::warned_as))]
+pub(crate) fn print_warnings<W: Write, F>(out: &mut W, text: &[u8]) -> Result<(), RunFault<F>>
+    ensures { PrintsWarnings text.now (W.contents out.old) (W.contents out.new) result }
+{
+    let empty = text.is_empty();
+    run_warned(empty, put(out, text))
 }
 
 /// Writes a front of the text, and all of it unless the writer fails.
@@ -150,7 +159,7 @@ fn say_check_fault<W: Write>(alloc: Global, writer: &mut W, memory: &[u8], fault
 }
 
 /// Writes a front of the line that reports a fault, and all of it unless the writer fails; nothing where nobody reads
-/// standard output any more. `listing` is whether the definitions of a component were asked for.
+/// standard output any more, or where warnings were printed there. `listing` is whether the definitions of a component were asked for.
 pub(crate) fn print_fault<W: Write, F: Display>(
     alloc: Global,
     writer: &mut W,
@@ -167,8 +176,10 @@ pub(crate) fn print_fault<W: Write, F: Display>(
         RunFault::Write { name } => say_value(alloc, writer, memory, "error: write ", name),
         RunFault::Out => say(writer, OUT),
         RunFault::Closed => {}
+        RunFault::Warned => {}
         RunFault::Fit(fault) => say_value(alloc, writer, memory, "error: ", fault),
         RunFault::Record(fault) => say_value(alloc, writer, memory, "error: ", fault),
+        RunFault::Lint(fault) => say_value(alloc, writer, memory, "error: ", fault),
         RunFault::Encode(fault) => say_encode_fault(alloc, writer, memory, fault),
         RunFault::Check(fault) => say_check_fault(alloc, writer, memory, fault),
     }

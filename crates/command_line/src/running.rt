@@ -11,6 +11,7 @@ ghost use Rattle.command_line.specs.Messages.{memory_line_of};
 use crate::arguments::{Request, is_listing};
 use crate::fault::{RunFault, out_of_memory};
 use crate::linking::print_links;
+use crate::linting::lint;
 use crate::listing::list;
 use crate::making::make;
 use crate::messages::{HELP, VERSION, print, print_fault};
@@ -39,6 +40,7 @@ fn perform<L: Lower + Drop, S: Store, W: Write>(
         Ok(Some(Request::Defs { file })) => list(alloc, file, store, out),
         Ok(Some(Request::Links { file, form })) => print_links(alloc, file, form, store, out),
         Ok(Some(Request::Explain { text })) => print(out, text.as_str().as_bytes()),
+        Ok(Some(Request::Lint { main, adapters })) => lint(alloc, main, adapters, store, out),
         Ok(Some(Request::Help)) => print(out, HELP),
         Ok(Some(Request::Version)) => print(out, VERSION),
         Ok(None) => Err(RunFault::Usage),

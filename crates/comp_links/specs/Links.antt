@@ -1,7 +1,7 @@
 -- The link table of a world: what each import of a user module is to be given, and what each required
 -- export is to be lifted from (Canonical ABI: `canon lower`, `canon lift`). It depends on the role of an import or
 -- an export, and on nothing else.
-use Rattle.std.specs.Prelude.{ℕ, Bool, true, List, [], ◌∷◌, ◌++◌, Option, Some, None, unwrap_or}
+use Rattle.std.specs.Prelude.{ℕ, Bool, true, false, List, [], ◌∷◌, ◌++◌, Option, Some, None, unwrap_or}
 use Rattle.std.specs.Option.{option_map, option_map_or, option_and_then}
 use Rattle.comp_lists.specs.Found.{found}
 use Rattle.standard_kinds.specs.declared.kinds.StringEncoding.{StringEncoding}
@@ -17,21 +17,25 @@ use Rattle.wit_data.specs.declared.worlds.WorldKey.TheVariants as keys
 use Rattle.comp_bytes.specs.declared.canon.Intrinsic.{Intrinsic}
 use Rattle.comp_bytes.specs.declared.canon.Intrinsic.TheVariants as intrinsics
 use Rattle.built_ins.specs.BuiltIns.{plain_intrinsic}
+use Rattle.built_ins.specs.Payloads.{PayloadCall, named_call}
 use Rattle.comp_options.specs.Options.{needs, import_set, export_set, task_return_set, wait_set, error_new_set, error_message_set, memory_bit, realloc_bit, encoding_bit, async_bit}
 use Rattle.comp_roles.specs.FunctionExports.{is_dtor}
 use Rattle.comp_roles.specs.Functions.{of_function}
 use Rattle.comp_roles.specs.Lookups.{first_export}
-use Rattle.comp_roles.specs.Reallocs.{is_import_realloc, is_export_realloc, realloc_for}
+use Rattle.comp_options.specs.Payloads.{payload_set}
+use Rattle.comp_roles.specs.Reallocs.{is_import_realloc, is_export_realloc, is_realloc_of, realloc_for}
 use Rattle.comp_roles.specs.declared.imports.Import.{Import}
 use Rattle.comp_roles.specs.declared.imports.Import.TheVariants as imports
 use Rattle.comp_roles.specs.declared.imports.ImportInstance.{ImportInstance}
 use Rattle.comp_roles.specs.declared.imports.ImportInstance.TheVariants as instances
 use Rattle.comp_roles.specs.declared.libraries.MainOrAdapter.{MainOrAdapter}
 use Rattle.comp_roles.specs.declared.libraries.MainOrAdapter.TheVariants as modules
+use Rattle.comp_roles.specs.declared.payloads.PayloadFuncKind.TheVariants as ends
+use Rattle.comp_roles.specs.declared.payloads.PayloadInfo.{PayloadInfo}
 use Rattle.comp_worlds.specs.declared.world.ComponentWorld.{ComponentWorld}
 use Rattle.comp_worlds.specs.declared.world.ValidatedModule.{ValidatedModule}
 use Rattle.comp_roles.specs.declared.exports.Export.{Export}
-use Rattle.comp_links.specs.Targets.{UserModule, Main, Adapter, ExportRef, TargetOption, Memory, Realloc, Encoding, Async, PostReturn, Callback, Target, OfRoot, OfInterface, NoType, operand_if_any, Lowered, ExportOf, MainMemory, New, Rep, Drop, OfResource, BuiltIn, TlsGet, TlsSet, Lifted, Unlinked}
+use Rattle.comp_links.specs.Targets.{UserModule, Main, Adapter, ExportRef, TargetOption, Memory, Realloc, Encoding, Async, PostReturn, Callback, Target, OfRoot, OfInterface, NoType, operand_if_any, payload_operand, Lowered, ExportOf, MainMemory, New, Rep, Drop, OfResource, BuiltIn, TlsGet, TlsSet, Lifted, Unlinked}
 use Rattle.comp_links.specs.Modules.{WorldModule, module_found}
 use Rattle.comp_links.specs.Lists.{RequiredFunction, ProvidedType}
 use Rattle.comp_links.specs.Roles.{import_encoding, export_encoding}
@@ -49,7 +53,7 @@ options_in set realloc encoding =
 -- ---- lowerings
 
 -- the set of options that a call of the function of a role needs: of `task.return`, those of the
--- function whose result it returns; of a wait, and of the functions of error contexts, their own
+-- function whose result it returns; of a wait, of the functions of error contexts, and of a read or a write, their own
 abbrev pub lower_needs : ComponentWorld → Import → ℕ
 lower_needs w (imports.WorldFunc key function abi) = option_map_or (import_set abi w.resolve.types) (root_function_at (items_of w).imports key) 0
 lower_needs w (imports.InterfaceFunc key id function abi) = option_map_or (import_set abi w.resolve.types) (found function (functions_of w.resolve id)) 0
@@ -58,6 +62,10 @@ lower_needs w imports.WaitableSetWait = wait_set
 lower_needs w imports.WaitableSetPoll = wait_set
 lower_needs w (imports.ErrorContextNew encoding) = error_new_set
 lower_needs w (imports.ErrorContextDebugMessage encoding) = error_message_set
+lower_needs w (imports.StreamRead p is_async) = payload_set w.resolve.types p.ty ends.StreamRead is_async
+lower_needs w (imports.StreamWrite p is_async) = payload_set w.resolve.types p.ty ends.StreamWrite is_async
+lower_needs w (imports.FutureRead p is_async) = payload_set w.resolve.types p.ty ends.FutureRead is_async
+lower_needs w (imports.FutureWrite p is_async) = payload_set w.resolve.types p.ty ends.FutureWrite is_async
 lower_needs w role = 0
 
 -- a module by its name, which main has none of
@@ -78,9 +86,31 @@ realloc_of w of test = option_and_then (λ (m : ValidatedModule). option_map exp
 abbrev pub lower_realloc : ComponentWorld → UserModule → Option ExportRef
 lower_realloc w of = realloc_of w of is_import_realloc
 
+-- the realloc of reads of a stream or a future: that of the function of which it is
+abbrev pub payload_realloc : ComponentWorld → UserModule → PayloadInfo → Option ExportRef
+payload_realloc w of p = realloc_of w of (is_realloc_of p.imported)
+
+-- the realloc of the function of a role
+abbrev pub role_realloc : ComponentWorld → UserModule → Import → Option ExportRef
+role_realloc w of (imports.StreamRead p is_async) = payload_realloc w of p
+role_realloc w of (imports.StreamWrite p is_async) = payload_realloc w of p
+role_realloc w of (imports.FutureRead p is_async) = payload_realloc w of p
+role_realloc w of (imports.FutureWrite p is_async) = payload_realloc w of p
+role_realloc w of role = lower_realloc w of
+
 -- the options with which the function of a role is lowered, a result returned, or another built-in function called
 abbrev pub lower_options : ComponentWorld → UserModule → Import → List TargetOption
-lower_options w m role = options_in (lower_needs w role) (lower_realloc w m) (import_encoding w m role)
+lower_options w m role = options_in (lower_needs w role) (role_realloc w m role) (import_encoding w m role)
+
+-- whether the function of an import is made behind its module, also where main imports its memory: it puts what it passes where
+-- the module's realloc says, as the text of an error context, or elements that are read
+abbrev pub is_always_shimmed : ComponentWorld → Import → Bool
+is_always_shimmed w (imports.ErrorContextDebugMessage encoding) = true
+is_always_shimmed w (imports.StreamRead p is_async) = needs (lower_needs w (imports.StreamRead p is_async)) realloc_bit
+is_always_shimmed w (imports.StreamWrite p is_async) = needs (lower_needs w (imports.StreamWrite p is_async)) realloc_bit
+is_always_shimmed w (imports.FutureRead p is_async) = needs (lower_needs w (imports.FutureRead p is_async)) realloc_bit
+is_always_shimmed w (imports.FutureWrite p is_async) = needs (lower_needs w (imports.FutureWrite p is_async)) realloc_bit
+is_always_shimmed w role = false
 
 -- ---- lifts
 
@@ -159,15 +189,32 @@ error_new = intrinsics.ErrorContextNew []
 abbrev pub error_message : Intrinsic
 error_message = intrinsics.ErrorContextDebugMessage []
 
+abbrev pub stream_read : Intrinsic
+stream_read = intrinsics.StreamRead 0 []
+
+abbrev pub stream_write : Intrinsic
+stream_write = intrinsics.StreamWrite 0 []
+
+abbrev pub future_read : Intrinsic
+future_read = intrinsics.FutureRead 0 []
+
+abbrev pub future_write : Intrinsic
+future_write = intrinsics.FutureWrite 0 []
+
 -- a built-in function without operands, where the role has one
 abbrev pub link_of_intrinsic : Import → Option Intrinsic → Target
 link_of_intrinsic role (Some i) = BuiltIn i NoType []
 link_of_intrinsic role None = link_of_cell role
 
+-- one of a stream or a future, where the role has such a function
+abbrev pub link_of_payload : ComponentWorld → Import → Option PayloadCall → Target
+link_of_payload w role (Some c) = BuiltIn c.intrinsic (payload_operand c.info.ty) []
+link_of_payload w role None = link_of_intrinsic role (plain_intrinsic w.can_use_context_slot_1 role)
+
 -- what an import of a user module is to be given, by its role: a function of the world is lowered,
 -- a resource has functions for its handles, the result of an exported function is returned, a wait
--- and a function of error contexts have their options, what another module exports is given as it
--- is, and another built-in function, or one of the cell, is that
+-- and a function of error contexts have their options, and so have a read and a write, what another module exports is given as it
+-- is, and another built-in function, of a stream or a future or of no type, or one of the cell, is that
 abbrev pub link_of : ComponentWorld → UserModule → Import → Target
 link_of w m (imports.WorldFunc (keys.Name text) function abi) = Lowered (OfRoot text) (lower_options w m (imports.WorldFunc (keys.Name text) function abi))
 link_of w m (imports.InterfaceFunc key id function abi) = Lowered (OfInterface id function) (lower_options w m (imports.InterfaceFunc key id function abi))
@@ -180,11 +227,15 @@ link_of w m imports.WaitableSetWait = BuiltIn set_wait NoType (lower_options w m
 link_of w m imports.WaitableSetPoll = BuiltIn set_poll NoType (lower_options w m imports.WaitableSetPoll)
 link_of w m (imports.ErrorContextNew encoding) = BuiltIn error_new NoType (lower_options w m (imports.ErrorContextNew encoding))
 link_of w m (imports.ErrorContextDebugMessage encoding) = BuiltIn error_message NoType (lower_options w m (imports.ErrorContextDebugMessage encoding))
+link_of w m (imports.StreamRead p is_async) = BuiltIn stream_read (payload_operand p.ty) (lower_options w m (imports.StreamRead p is_async))
+link_of w m (imports.StreamWrite p is_async) = BuiltIn stream_write (payload_operand p.ty) (lower_options w m (imports.StreamWrite p is_async))
+link_of w m (imports.FutureRead p is_async) = BuiltIn future_read (payload_operand p.ty) (lower_options w m (imports.FutureRead p is_async))
+link_of w m (imports.FutureWrite p is_async) = BuiltIn future_write (payload_operand p.ty) (lower_options w m (imports.FutureWrite p is_async))
 link_of w m (imports.MainModuleMemory type) = MainMemory
 link_of w m (imports.MainModuleExport name kind) = ExportOf (record { of = Main; name = name })
 link_of w m (imports.AdapterExport adapter name type) = ExportOf (record { of = Adapter adapter; name = name })
 link_of w m (imports.Item item) = ExportOf (record { of = module_of item.which; name = item.name })
-link_of w m role = link_of_intrinsic role (plain_intrinsic w.can_use_context_slot_1 role)
+link_of w m role = link_of_payload w role (named_call role)
 
 -- the same by the names of its module and field: a module whose imports from one other are all
 -- given by a whole instance gets what that exports under these names

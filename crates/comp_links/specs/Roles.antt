@@ -1,6 +1,6 @@
 -- What the roles of a world need (component model: a function is imported once, under its name;
 -- Canonical ABI: each function is called with a string encoding).
-use Rattle.std.specs.Prelude.{◌==◌, ℕ, Bool, true, false, List, ◌∷◌, ◌++◌, Option, Some, None, filter, map, if◌then◌else◌, IsTrue, IsSome}
+use Rattle.std.specs.Prelude.{◌==◌, ℕ, Bool, true, false, List, ◌∷◌, ◌++◌, Option, Some, None, filter, map, if◌then◌else◌, unwrap_or, IsTrue, IsSome}
 use Rattle.std.specs.List.{list_any}
 use Rattle.std.specs.Option.{option_and_then}
 use Rattle.std.specs.Str.{bytes_eq}
@@ -15,6 +15,10 @@ use Rattle.standard_kinds.specs.declared.kinds.StringEncoding.TheVariants.{UTF8}
 use Rattle.comp_roles.specs.declared.imports.Import.{Import}
 use Rattle.comp_roles.specs.declared.imports.Import.TheVariants as imports
 use Rattle.comp_roles.specs.declared.imports.ImportInstance.{ImportInstance}
+use Rattle.comp_roles.specs.declared.metadata.FunctionKey.{FunctionKey}
+use Rattle.comp_roles.specs.declared.payloads.PayloadInfo.{PayloadInfo}
+use Rattle.comp_roles.specs.declared.payloads.PayloadType.{PayloadType}
+use Rattle.comp_roles.specs.declared.payloads.PayloadType.TheVariants as payloads
 use Rattle.comp_worlds.specs.declared.world.ComponentWorld.{ComponentWorld}
 use Rattle.comp_worlds.specs.declared.world.ValidatedModule.{ValidatedModule}
 use Rattle.comp_links.specs.Targets.{UserModule}
@@ -60,6 +64,17 @@ needs_encoding (imports.InterfaceFunc key interface function abi) = true
 needs_encoding (imports.ExportedTaskReturn key interface function) = true
 needs_encoding role = false
 
+-- the string encodings of the functions that a module imports, or of those that it exports
+abbrev pub encodings_of : (imported : Bool) → ValidatedModule → List (FunctionKey × StringEncoding)
+encodings_of true m = m.metadata.import_encodings
+encodings_of false m = m.metadata.export_encodings
+
+-- the encoding of the elements of a stream or a future: that of the function of which it is. Where that has none, or
+-- nothing is passed, any would do
+abbrev pub payload_encoding : PayloadInfo → PayloadType → ValidatedModule → StringEncoding
+payload_encoding p (payloads.Typed id function) m = unwrap_or (option_and_then (λ key. of_function key function (encodings_of p.imported m)) p.key) UTF8
+payload_encoding p unit m = UTF8
+
 -- the encoding with which a module calls an import of this role: that of the function, or the
 -- role's own. A wait passes no text, so that any would do
 abbrev pub encoding_in : Import → ValidatedModule → Option StringEncoding
@@ -70,16 +85,14 @@ encoding_in imports.WaitableSetWait m = Some UTF8
 encoding_in imports.WaitableSetPoll m = Some UTF8
 encoding_in (imports.ErrorContextNew encoding) m = Some encoding
 encoding_in (imports.ErrorContextDebugMessage encoding) m = Some encoding
+encoding_in (imports.StreamRead p is_async) m = Some (payload_encoding p p.ty m)
+encoding_in (imports.StreamWrite p is_async) m = Some (payload_encoding p p.ty m)
+encoding_in (imports.FutureRead p is_async) m = Some (payload_encoding p p.ty m)
+encoding_in (imports.FutureWrite p is_async) m = Some (payload_encoding p p.ty m)
 encoding_in role m = None
 
 abbrev pub import_encoding : ComponentWorld → UserModule → Import → Option StringEncoding
 import_encoding w of role = option_and_then (encoding_in role) (module_found w of)
-
--- whether the function of an import is made behind its module, also where main imports its memory: the
--- text of an error context is put where the module's realloc says
-abbrev pub is_always_shimmed : Import → Bool
-is_always_shimmed (imports.ErrorContextDebugMessage encoding) = true
-is_always_shimmed role = false
 
 -- whether an import is main's memory
 abbrev pub is_main_memory : Import → Bool

@@ -1,13 +1,17 @@
 -- What an import of a core module is to be given, and what a required export is to be lifted from
 -- (Canonical ABI: `canon lower`, `canon lift` and their options, `canon resource.new` and its
--- neighbours, `canon task.return` and the other built-in functions). A target names modules, functions and exports, and never an index.
+-- neighbours, `canon task.return`, `canon stream.new` and the other built-in functions). A target names modules,
+-- functions and exports, and never an index.
 use Rattle.std.specs.Prelude.{ℕ, List, Option, Some, None}
 use Rattle.standard_kinds.specs.declared.kinds.StringEncoding.{StringEncoding}
 use Rattle.comp_bytes.specs.declared.canon.Intrinsic.{Intrinsic}
 use Rattle.wit_data.specs.declared.ids.InterfaceId.{InterfaceId}
 use Rattle.wit_data.specs.declared.ids.TypeId.{TypeId}
 use Rattle.wit_data.specs.declared.types.Type.{«Type» as Ty}
+use Rattle.wit_data.specs.declared.types.Type.TheVariants.{Id}
 use Rattle.wit_data.specs.declared.types.TypeDef.{TypeDef}
+use Rattle.comp_roles.specs.declared.payloads.PayloadType.{PayloadType}
+use Rattle.comp_roles.specs.declared.payloads.PayloadType.TheVariants as payloads
 use Rattle.comp_trees.specs.Trees.{Tree, Absent, StreamOf, FutureOf, Resource}
 use Rattle.comp_trees.specs.WitTrees.{wit_tree}
 
@@ -53,6 +57,12 @@ pub data Operand : Type 0 where
 abbrev pub operand_if_any : Option Ty → Operand
 operand_if_any None = NoType
 operand_if_any (Some type) = OfType type
+
+-- of a stream or a future
+abbrev pub payload_operand : PayloadType → Operand
+payload_operand (payloads.Typed id function) = OfType (Id id)
+payload_operand payloads.UnitFuture = UnitFuture
+payload_operand payloads.UnitStream = UnitStream
 
 -- what this denotes, where each resource of the world is what `origins` says
 abbrev pub operand_tree : (origins : TypeId → Resource) → List TypeDef → Operand → Option Tree

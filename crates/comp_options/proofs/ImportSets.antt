@@ -1,14 +1,18 @@
 -- The sets of options of calls of imported functions: without a memory there is no realloc, and a
--- call is asynchronous by its form alone.
+-- call is asynchronous by its form alone. A read or a write of elements has a memory.
 use Rattle.std.proofs.Common.{◌≡◌, ◌∙◌, ℕ, Bool, true, false, true≢false, List, [], ◌∷◌, refl, sym, ap, ◌||◌}
 use Rattle.wit_data.specs.declared.functions.AbiVariant.{AbiVariant}
 use Rattle.wit_data.specs.declared.functions.AbiVariant.TheVariants as abis
 use Rattle.wit_data.specs.declared.functions.Function.{Function}
 use Rattle.wit_data.specs.declared.types.TypeDef.{TypeDef}
 use Rattle.wit_data.specs.Contents.{contents_bits}
-use Rattle.comp_options.specs.Options.{needs, with_if, lifted, lowered, pass_all, param_contents, passes_memory, is_async_import, import_set, without_realloc, task_return_set}
-use Rattle.comp_options.specs.Payloads.{way_of}
+use Rattle.comp_options.specs.Options.{needs, with_if, lifted, lowered, passed, pass_all, param_contents, passes_memory, is_async_import, import_set, without_realloc, task_return_set}
+use Rattle.comp_options.specs.Payloads.{way_of, carried, payload_set}
+use Rattle.comp_options.specs.declared.required.Direction.{Direction}
+use Rattle.comp_options.specs.declared.required.Direction.TheVariants as ways
+use Rattle.comp_roles.specs.declared.payloads.PayloadFuncKind.{PayloadFuncKind}
 use Rattle.comp_roles.specs.declared.payloads.PayloadFuncKind.TheVariants as ends
+use Rattle.comp_roles.specs.declared.payloads.PayloadType.{PayloadType}
 
 -- the sets that are reached from no options: by lifting the first three, by lowering a result after that the others
 data Reached : Type 0 where
@@ -142,3 +146,28 @@ cleared false allocated_text = refl
 -- a return needs no realloc
 pub no_realloc_returned : (types : List TypeDef) (f : Function) → needs (task_return_set types f) 2 ≡ false
 no_realloc_returned types f = let is = reached abis.GuestImport types f in ap (λ (set : ℕ). needs (without_realloc set) 2) is.1 ∙ cleared (is_async_import abis.GuestImport) is.0
+
+-- ---- streams and futures
+
+-- what one way of passing elements needs, beside a memory
+pass_one : (way : Direction) (c : ℕ) → IsReached (passed way c 0)
+pass_one ways.Lift c = lift_more (needs c 1) (needs c 2) none
+pass_one ways.Lower c = lower_more (needs c 1) (needs c 2) none
+
+has_memory : (a : Bool) (r : Reached) → needs (with_if a 8 (with_if true 1 (bits r))) 1 ≡ true
+has_memory true none = refl
+has_memory false none = refl
+has_memory true memory = refl
+has_memory false memory = refl
+has_memory true text = refl
+has_memory false text = refl
+has_memory true allocated = refl
+has_memory false allocated = refl
+has_memory true allocated_text = refl
+has_memory false allocated_text = refl
+
+-- a read and a write need a memory
+pub memory_accessed : (types : List TypeDef) (payload : PayloadType) (kind : PayloadFuncKind) (is_async : Bool) → needs (payload_set types payload kind is_async) 1 ≡ true
+memory_accessed types payload kind is_async =
+    let one = pass_one (way_of kind) (contents_bits types (carried types payload)) in
+    ap (λ (set : ℕ). needs (with_if is_async 8 (with_if true 1 set)) 1) one.1 ∙ has_memory is_async one.0

@@ -4,10 +4,8 @@ use Rattle.std.specs.Prelude.{ℕ, List, Bool, Option, Some, None}
 use Rattle.std.specs.Int.RustNames.{bit_or}
 use Rattle.wit_data.specs.declared.types.Type.{«Type» as Ty}
 use Rattle.wit_data.specs.declared.types.TypeDef.{TypeDef}
-use Rattle.wit_data.specs.declared.resolve.Resolve.{Resolve}
 use Rattle.wit_data.specs.Values.{kind_at}
 use Rattle.wit_data.specs.Contents.{contents_bits, carried_by}
-use Rattle.wit_data.specs.Sound.{HasTypeId}
 use Rattle.comp_roles.specs.declared.payloads.PayloadType.{PayloadType}
 use Rattle.comp_roles.specs.declared.payloads.PayloadType.TheVariants as payloads
 use Rattle.comp_roles.specs.declared.payloads.PayloadFuncKind.{PayloadFuncKind}
@@ -31,8 +29,3 @@ way_of ends.StreamRead = ways.Lower
 -- elements are passed in memory
 abbrev pub payload_set : List TypeDef → PayloadType → PayloadFuncKind → Bool → ℕ
 payload_set types payload kind is_async = with_if is_async async_bit (bit_or (passed (way_of kind) (contents_bits types (carried types payload)) 0) memory_bit)
-
--- its type exists in the resolve
-abbrev pub HasPayload : Resolve → PayloadType → Type 0
-HasPayload r (payloads.Typed id function) = HasTypeId r id
-HasPayload r _ = Unit {0}

@@ -10,7 +10,8 @@ ghost use Rattle.wit_data.specs.Contents.{contents_bits};
 ghost use Rattle.wit_data.specs.Sound.{IsSound, HasFunction, HasType};
 ghost use Rattle.comp_options.specs.Options.{lifted, lowered, passed, pass_all, param_contents, passes_memory, is_async_export, import_set, export_set, task_return_set, wait_set, error_new_set, error_message_set};
 ghost use Rattle.comp_options.specs.OptionLists.{options_of, encoding_option, lacks_memory, lacks_realloc};
-ghost use Rattle.comp_options.specs.Payloads.{way_of, carried, payload_set, HasPayload};
+ghost use Rattle.comp_options.specs.Payloads.{way_of, carried, payload_set};
+ghost use Rattle.comp_options.specs.Known.{HasPayload};
 ghost use Rattle.comp_options.specs.declared.required.OptionFault.TheVariants.{NoMemory, NoRealloc};
 
 use bitflags::{Flag, Flags, bitflag_items};

@@ -17,6 +17,11 @@ abbrev pub is_export_realloc : Export → Bool
 is_export_realloc exports.GeneralPurposeExportRealloc = true
 is_export_realloc role = false
 
+-- the one that calls of imported functions have, or else that of exported ones
+abbrev pub is_realloc_of : (imported : Bool) → Export → Bool
+is_realloc_of true = is_import_realloc
+is_realloc_of false = is_export_realloc
+
 -- one of the three reallocs
 abbrev pub is_realloc : Export → Bool
 is_realloc exports.GeneralPurposeRealloc = true

@@ -6,7 +6,7 @@ ghost use Rattle.std.specs.Option.{option_copied};
 ghost use Rattle.std.specs.Map.Iter.{ShowsInOrder, deref_pair};
 ghost use Rattle.comp_roles.specs.Lookups.{first_export, first_memory, is_initialize, is_task_hook};
 ghost use Rattle.comp_roles.specs.FunctionExports.{first_abi, is_post_return, is_callback, is_dtor, abi_of};
-ghost use Rattle.comp_roles.specs.Reallocs.{realloc_names, realloc_for, is_general_realloc, is_import_realloc, is_export_realloc, is_realloc};
+ghost use Rattle.comp_roles.specs.Reallocs.{realloc_names, realloc_for, is_realloc_of, is_general_realloc, is_import_realloc, is_export_realloc, is_realloc};
 ghost use Rattle.comp_roles.specs.Borrowed.{lent_pair};
 
 use crate::roles::{
@@ -196,9 +196,27 @@ impl ExportMap {
     pub fn export_realloc_for(&self, _key: &WorldKey, _function: &str) -> Option<&str>
         ensures { option_copied result ≡ realloc_for is_export_realloc self.now.exports }
     {
+        self.export_realloc()
+    }
+
+    fn export_realloc(&self) -> Option<&str>
+        ensures { option_copied result ≡ realloc_for is_export_realloc self.now.exports }
+    {
         match first(&self.exports, &ExportRealloc) {
             Some(name) => Some(name),
             None => self.general_purpose_realloc(),
+        }
+    }
+
+    /// The realloc of reads of a stream or a future, which is one of an imported function, or of an
+    /// exported one.
+    pub fn payload_realloc(&self, imported: bool) -> Option<&str>
+        ensures { option_copied result ≡ realloc_for (is_realloc_of imported) self.now.exports }
+    {
+        if imported {
+            self.import_realloc_for(None, "")
+        } else {
+            self.export_realloc()
         }
     }
 }

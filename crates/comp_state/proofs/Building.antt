@@ -25,7 +25,7 @@ use Rattle.std.specs.List.{AllByRecursion, list_any}
 use Rattle.std.specs.Map.{keys_of}
 use Rattle.core_options.specs.MainOptions.{HasLowerOptions, HasLiftOptions}
 use Rattle.comp_links.specs.Lists.{required_functions}
-use Rattle.comp_links.specs.Links.{lower_realloc, lift_realloc}
+use Rattle.comp_links.specs.Links.{role_realloc, lift_realloc}
 use Rattle.comp_terms.specs.Generated.{GeneratedBytes, AreGenerated}
 use Rattle.comp_links.specs.Roles.{import_encoding, export_encoding}
 use Rattle.comp_links.specs.Supplied.{IsSuppliedImport}
@@ -98,7 +98,7 @@ encoded_memory w h place l = lacks_none (memory_of_main w.main) (offered l.neede
 
 pub encoded_realloc : (w : ComponentWorld) → IsEncoded w → (place : List ℕ) → LacksRealloc w (user_imports w) (required_functions w) place → ⊥
 encoded_realloc w h place (inl l) =
-    let has = AllByRecursion-contains (HasLowerOptions w) (user_imports w) l.needed.given h.lowered l.needed.present in lacks_none (lower_realloc w l.needed.given.of) (has.realloc l.needed.needed) l.none
+    let has = AllByRecursion-contains (HasLowerOptions w) (user_imports w) l.needed.given h.lowered l.needed.present in lacks_none (role_realloc w l.needed.given.of l.needed.given.core.role) (has.realloc l.needed.needed) l.none
 encoded_realloc w h place (inr l) = let has = AllByRecursion-contains (HasLiftOptions w) (required_functions w) l.needed.required h.lifted l.needed.present in lacks_none (lift_realloc w l.needed.required.of) (has.realloc l.needed.needed) l.none
 
 -- where all modules agree on the type of the thread-local base, no two differ

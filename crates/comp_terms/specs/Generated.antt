@@ -16,6 +16,9 @@ use Rattle.wit_data.specs.declared.worlds.WorldKey.TheVariants as keys
 use Rattle.comp_roles.specs.declared.imports.Import.{Import}
 use Rattle.comp_roles.specs.declared.imports.Import.TheVariants as imports
 use Rattle.comp_roles.specs.declared.offered.ExternType.TheVariants as externs
+use Rattle.comp_roles.specs.declared.payloads.PayloadFuncKind.{PayloadFuncKind}
+use Rattle.comp_roles.specs.declared.payloads.PayloadFuncKind.TheVariants as ends
+use Rattle.comp_roles.specs.declared.payloads.PayloadInfo.{PayloadInfo}
 use Rattle.comp_worlds.specs.Bases.{cell_type, AreBasesAlike}
 use Rattle.comp_worlds.specs.Offered.{shared_memory}
 use Rattle.comp_worlds.specs.Typed.{type_of_import}
@@ -107,6 +110,13 @@ export_key w (Some id) name = key_of_export id (items_of w).exports
 abbrev pub returning_at : ComponentWorld → UserModule → Option InterfaceId → List ℕ → WorldKey → Option (UserModule × Import)
 returning_at w of interface name key = option_map (λ f. (of, imports.ExportedTaskReturn key interface f)) (function_exported w key name)
 
+-- the role of an import that reads from this stream or future, or writes to it
+abbrev pub access_role : PayloadInfo → PayloadFuncKind → (is_async : Bool) → Import
+access_role p ends.StreamRead is_async = imports.StreamRead p is_async
+access_role p ends.StreamWrite is_async = imports.StreamWrite p is_async
+access_role p ends.FutureRead is_async = imports.FutureRead p is_async
+access_role p ends.FutureWrite is_async = imports.FutureWrite p is_async
+
 -- the module and the role of the imports that are given a shim of this kind: main, where those of all modules are
 abbrev pub role_of_kind : ComponentWorld → ShimKind → Option (UserModule × Import)
 role_of_kind w (kinds.IndirectLowering None function which encoding) = Some (module_of which, imports.WorldFunc (keys.Name function.name) function.name function.abi)
@@ -116,6 +126,7 @@ role_of_kind w kinds.WaitableSetWait = Some (Main, imports.WaitableSetWait)
 role_of_kind w kinds.WaitableSetPoll = Some (Main, imports.WaitableSetPoll)
 role_of_kind w (kinds.ErrorContextNew encoding) = Some (Main, imports.ErrorContextNew encoding)
 role_of_kind w (kinds.ErrorContextDebugMessage which encoding) = Some (module_of which, imports.ErrorContextDebugMessage encoding)
+role_of_kind w (kinds.PayloadFunc which p kind is_async) = Some (module_of which, access_role p kind is_async)
 role_of_kind w kind = None
 
 -- the shim stands for what imports of this role in a module are to be given, and has their core type

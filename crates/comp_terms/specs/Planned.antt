@@ -20,11 +20,14 @@ use Rattle.comp_roles.specs.declared.imports.Import.TheVariants as imports
 use Rattle.comp_roles.specs.declared.imports.ImportInstance.{ImportInstance}
 use Rattle.comp_roles.specs.declared.imports.ImportInstance.TheVariants as instances
 use Rattle.comp_roles.specs.declared.libraries.MainOrAdapter.{MainOrAdapter}
+use Rattle.comp_roles.specs.declared.payloads.PayloadType.{PayloadType}
+use Rattle.comp_roles.specs.declared.payloads.PayloadType.TheVariants as payloads
 use Rattle.comp_worlds.specs.declared.world.ComponentWorld.{ComponentWorld}
 use Rattle.wit_data.specs.declared.functions.Function.{Function as WitFunction}
 use Rattle.wit_data.specs.declared.types.Type.{«Type» as Ty}
-use Rattle.comp_trees.specs.Trees.{Tree, FunctionTree}
-use Rattle.comp_trees.specs.WitTrees.{wit_function_tree}
+use Rattle.wit_data.specs.declared.types.Type.TheVariants.{Id}
+use Rattle.comp_trees.specs.Trees.{Tree, Absent, StreamOf, FutureOf, FunctionTree}
+use Rattle.comp_trees.specs.WitTrees.{wit_tree, wit_function_tree}
 use Rattle.comp_links.specs.Targets.{UserModule, ExportRef, WorldFunction, TargetOption, operand_if_any, operand_tree, Target}
 use Rattle.comp_links.specs.Targets as targets
 use Rattle.comp_links.specs.Modules.{IsModule, function_imported}
@@ -103,6 +106,12 @@ type_of_function w f = wit_function_tree (resource_of w) w.resolve.types f
 -- what the result of one is, if it has one
 abbrev pub result_tree : ComponentWorld → Option Ty → Option Tree
 result_tree w result = operand_tree (resource_of w) w.resolve.types (operand_if_any result)
+
+-- what a stream or a future is
+abbrev pub payload_tree : ComponentWorld → PayloadType → Tree
+payload_tree w (payloads.Typed id name) = wit_tree (resource_of w) w.resolve.types (Some (Id id))
+payload_tree w payloads.UnitStream = StreamOf Absent
+payload_tree w payloads.UnitFuture = FutureOf Absent
 
 -- this is the type of a function that the world imports
 pub record IsTypeOf (w : ComponentWorld) (function : WorldFunction) (type : FunctionTree) : Type 0 where

@@ -1,4 +1,5 @@
 pub mod Roles
+pub mod PayloadRoles
 pub mod WholeTables
 pub mod NotOfMain
 pub mod Matched

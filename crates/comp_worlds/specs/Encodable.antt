@@ -24,7 +24,7 @@ use Rattle.wit_data.specs.Values.{Making, kind_at, value}
 use Rattle.comp_roles.specs.declared.imports.Import.{Import}
 use Rattle.comp_roles.specs.declared.imports.Import.TheVariants as imports
 use Rattle.world_values.specs.Items.{functions_of}
-use Rattle.world_values.specs.Mentions.{interface_types, interfaces_of, same_interface}
+use Rattle.world_values.specs.Mentions.{interface_types, interfaces_of, same_interface, payload_in, imported_payload}
 use Rattle.comp_worlds.specs.WorldContents.{items_of, imported_types, interface_at, name_at}
 use Rattle.comp_worlds.specs.Worlds.{IsWorld, IsResource}
 use Rattle.comp_worlds.specs.ExportOrder.{required_interfaces}
@@ -151,10 +151,15 @@ abbrev pub IsExportPlaced : Resolve → World → WorldItem → Type 0
 IsExportPlaced r world (items.Interface id) = IsExportedPlaced r world id
 IsExportPlaced r world item = IsItemPlaced r world.imports item
 
--- a resource whose handles are dropped belongs to an imported interface, or to the root
+-- what there is of a type is made of types of imported interfaces and of the root
+abbrev pub IsAtRoot : Resolve → Entries → Option Ty → Type 0
+IsAtRoot r es None = Unit {0}
+IsAtRoot r es (Some t) = place r.types es (Some t) ≤ length es
+
+-- so is a resource whose handles are dropped, and a stream or a future of an imported function
 abbrev pub IsRolePlaced : Resolve → Entries → Import → Type 0
 IsRolePlaced r es (imports.ImportedResourceDrop key interface id) = place r.types es (Some (Id id)) ≤ length es
-IsRolePlaced r es role = Unit {0}
+IsRolePlaced r es role = IsAtRoot r es (imported_payload (payload_in role))
 
 -- ---- the whole
 

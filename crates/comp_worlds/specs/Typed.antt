@@ -11,6 +11,7 @@ use Rattle.wit_data.specs.declared.functions.Function.{Function}
 use Rattle.wit_data.specs.declared.functions.AbiVariant.TheVariants.{GuestImport, GuestExport}
 use Rattle.wit_data.specs.Signatures.{signature, returning}
 use Rattle.built_ins.specs.BuiltIns.{plain_import_type}
+use Rattle.built_ins.specs.Payloads.{PayloadCall, named_call, payload_signature}
 use Rattle.comp_roles.specs.CoreImports.{role_at}
 use Rattle.comp_roles.specs.CoreTypes.{function_type, value_type, called_type}
 use Rattle.comp_roles.specs.declared.imports.Import.{Import}
@@ -66,9 +67,14 @@ post_return_type r f = externs.Func (function_type (map value_type (signature Gu
 abbrev pub callback_type : ExternType
 callback_type = externs.Func (function_type (I32 ∷ I32 ∷ I32 ∷ []) (I32 ∷ []))
 
+-- the type of a built-in function of a stream or a future, or else of one of no type
+abbrev pub type_of_built_in : Import → Option PayloadCall → Option ExternType
+type_of_built_in role (Some c) = Some (externs.Func (payload_signature c.intrinsic))
+type_of_built_in role None = option_map externs.Func (plain_import_type role)
+
 -- the type that the role of an import, or of an export, requires, as far as such roles are encoded:
--- of a built-in function without operands too; an export of main and an item of an argument are
--- given where they match the import
+-- of a built-in function too; an export of main and an item of an argument are given where they
+-- match the import
 abbrev pub type_of_import : Resolve → World → Import → Option ExternType
 type_of_import r items (imports.WorldFunc key function abi) = option_map (called_type r abi) (root_function_at items.imports key)
 type_of_import r items (imports.InterfaceFunc key id function abi) = option_map (called_type r abi) (found function (functions_of r id))
@@ -83,7 +89,7 @@ type_of_import r items (imports.ErrorContextNew encoding) = Some wait_type
 type_of_import r items (imports.ErrorContextDebugMessage encoding) = Some message_type
 type_of_import r items (imports.MainModuleMemory type) = Some (externs.Memory type)
 type_of_import r items (imports.AdapterExport adapter name type) = Some (externs.Func type)
-type_of_import r items role = option_map externs.Func (plain_import_type role)
+type_of_import r items role = type_of_built_in role (named_call role)
 
 abbrev pub type_of_export : Resolve → World → Export → Option ExternType
 type_of_export r items (exports.WorldFunc key function abi) = option_map (called_type r abi) (root_function_at items.exports key)

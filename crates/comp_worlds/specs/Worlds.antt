@@ -1,6 +1,6 @@
 -- What holds of a validated world (component model: the imports and exports of a world; core standard, binary format:
 -- the preamble of a module).
-use Rattle.std.specs.Prelude.{◌≡◌, ◌<◌, ◌==◌, ℕ, true, false, List, [], ◌∷◌, Option, Some, map, length, Contains, IsSome}
+use Rattle.std.specs.Prelude.{◌≡◌, ◌<◌, ◌==◌, ℕ, true, false, List, [], ◌∷◌, Option, Some, None, map, length, Contains, IsSome}
 use Rattle.std.specs.List.{IsDistinct, AllByRecursion, list_any, flat_map}
 use Rattle.std.specs.Map.{keys_of}
 use Rattle.std.specs.Option.{option_and_then}
@@ -20,12 +20,14 @@ use Rattle.wit_data.specs.Keys.{is_same_key}
 use Rattle.wit_data.specs.Names.{id_name_of, key_text}
 use Rattle.wit_data.specs.Values.{kind_at}
 use Rattle.built_ins.specs.BuiltIns.{plain_intrinsic}
+use Rattle.built_ins.specs.Payloads.{called_payload}
 use Rattle.comp_roles.specs.declared.imports.Import.{Import}
 use Rattle.comp_roles.specs.declared.imports.Import.TheVariants as imports
 use Rattle.comp_roles.specs.declared.imports.ImportInstance.{ImportInstance}
 use Rattle.comp_roles.specs.declared.imports.ImportInstance.TheVariants as instances
 use Rattle.comp_roles.specs.declared.exports.Export.{Export}
 use Rattle.comp_roles.specs.declared.exports.Export.TheVariants as exports
+use Rattle.comp_roles.specs.declared.payloads.PayloadInfo.{PayloadInfo}
 use Rattle.comp_worlds.specs.declared.world.ComponentWorld.{ComponentWorld}
 use Rattle.comp_worlds.specs.declared.world.ValidatedModule.{ValidatedModule}
 use Rattle.world_values.specs.ExportForms.{IsExportForm, IsFormed}
@@ -34,6 +36,7 @@ use Rattle.world_values.specs.Mentions.{interface_in}
 use Rattle.comp_worlds.specs.Lookups.{found_module}
 use Rattle.comp_worlds.specs.Lowerings.{IsImportForm}
 use Rattle.comp_worlds.specs.Offered.{OffersItem, NamedOffers, AdapterOffers, MemoryMatches}
+use Rattle.comp_worlds.specs.Payloads.{IsPayload}
 use Rattle.comp_worlds.specs.Typed.{FitsImport, FitsExport}
 use Rattle.comp_worlds.specs.Uses.{imports_of}
 use Rattle.comp_worlds.specs.WorldContents.{items_of, imported_functions, exported_functions, exported_item, function_exported, core_name_in, interface_at, keys_required}
@@ -88,10 +91,17 @@ pub record IsOwnFunction (w : ComponentWorld) (key : WorldKey) (interface : Opti
   pub of : option_and_then interface_in (exported_item w key) ≡ interface
   pub required : IsSome interface → Contains (keys_required w) key
 
+-- a built-in function of a stream or a future; without one, a built-in function of no type, or a function of the
+-- thread-local base
+abbrev pub IsBuiltInRole : ComponentWorld → Import → Option PayloadInfo → Type 0
+IsBuiltInRole w role (Some p) = IsPayload w p
+IsBuiltInRole w role None = IsSome (plain_intrinsic true role)
+
 -- the role of an import is a function that the world imports, at its root or in an interface,
 -- called in either form, the drop of a resource, `resource.drop`, `resource.rep` or `resource.new`
 -- of a resource of an exported interface, `task.return` of an exported function, a wait, a function of error contexts, main's memory, what main
--- or an adapter offers, an item of an argument of a library, a built-in function without operands, or a function of the thread-local base
+-- or an adapter offers, an item of an argument of a library, another built-in function, or a function of the
+-- thread-local base
 abbrev pub IsImportRole : ComponentWorld → Import → Type 0
 IsImportRole w (imports.WorldFunc (keys.Name text) function abi) = Contains (imported_functions w) text × (function ≡ text) × IsImportForm abi
 IsImportRole w (imports.InterfaceFunc key id function abi) = Contains (items_of w).imports (key, items.Interface id) × Contains (map (λ e. e.0) (functions_of w.resolve id)) function × IsImportForm abi
@@ -108,7 +118,7 @@ IsImportRole w (imports.MainModuleMemory type) = MemoryMatches w type
 IsImportRole w (imports.MainModuleExport name kind) = OffersItem w.main name kind
 IsImportRole w (imports.AdapterExport adapter name type) = AdapterOffers w adapter name type
 IsImportRole w (imports.Item item) = NamedOffers w item.which item.name item.kind
-IsImportRole w role = IsSome (plain_intrinsic true role)
+IsImportRole w role = IsBuiltInRole w role (called_payload role)
 
 -- a function of the handles of an exported resource is for the module that has to export its interface
 abbrev pub IsForOwnKey : List WorldKey → Import → Type 0

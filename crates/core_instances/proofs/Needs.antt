@@ -2,7 +2,7 @@
 use Rattle.std.proofs.Common.{◌≡◌, ◌∙◌, Bool, true, false, ℕ, zero, suc, slice_get, is_some, List, [], ◌∷◌, Option, Some, None, IsSome, IsTrue, Contains, refl, sym, ap, subst, true≢false}
 use Rattle.std.proofs.lemmas.Option.{same_Some}
 use Rattle.std.specs.List.{AllByRecursion}
-use Rattle.std.specs.Option.{option_map, option_or}
+use Rattle.std.specs.Option.{option_and_then, option_map, option_or}
 use Rattle.core_types.specs.declared.types.MemoryType.{MemoryType}
 use Rattle.standard_kinds.specs.declared.kinds.StringEncoding.{StringEncoding}
 use Rattle.standard_kinds.specs.declared.kinds.StringEncoding.TheVariants.{UTF8}
@@ -12,14 +12,17 @@ use Rattle.comp_options.specs.Options.{needs}
 use Rattle.comp_roles.specs.Lookups.{first_memory}
 use Rattle.comp_roles.specs.declared.imports.Import.{Import}
 use Rattle.comp_roles.specs.declared.imports.Import.TheVariants as imports
+use Rattle.comp_roles.specs.declared.payloads.PayloadFuncKind.TheVariants as ends
 use Rattle.comp_worlds.specs.Encodable.{IsEncodable}
 use Rattle.comp_worlds.specs.Offered.{shared_memory}
 use Rattle.comp_worlds.specs.declared.world.ComponentWorld.{ComponentWorld}
-use Rattle.comp_links.specs.Links.{lower_needs, lower_realloc}
+use Rattle.comp_worlds.specs.declared.world.ValidatedModule.{ValidatedModule}
+use Rattle.comp_links.specs.Links.{lower_needs, role_realloc, is_always_shimmed}
 use Rattle.comp_links.specs.Modules.{UserImport, user_imports}
 use Rattle.comp_links.specs.Targets.{UserModule}
-use Rattle.comp_links.specs.Roles.{encoding_in, import_encoding, is_always_shimmed}
+use Rattle.comp_links.specs.Roles.{encoding_in, import_encoding, payload_encoding}
 use Rattle.comp_links.specs.Supplied.{IsSuppliedImport}
+use Rattle.shim_plan.specs.Needed.{Accessed, access_kind, access_to, accessed_of}
 use Rattle.shim_plan.specs.Plans.{shim_of}
 use Rattle.shim_plan.specs.declared.kinds.ShimKind.{ShimKind}
 use Rattle.shim_plan.specs.declared.kinds.ShimKind.TheVariants as kinds
@@ -29,8 +32,8 @@ use Rattle.shim_targets.proofs.ByKind.{for_role}
 use Rattle.shim_targets.proofs.EachShim.{each_stands}
 use Rattle.shim_targets.proofs.FoundShims.{found_shim}
 use Rattle.shim_targets.proofs.GivenShims.{given_shim}
-use Rattle.shim_targets.proofs.NeededShims.{message_there, shim_there}
-use Rattle.shim_targets.proofs.Owners.{import_found, message_of, owner_by_realloc, role_encoded}
+use Rattle.shim_targets.proofs.NeededShims.{shim_there}
+use Rattle.shim_targets.proofs.Owners.{AccessImport, AlwaysShimmed, access_import_of, always_shimmed, import_found, owner_by_realloc, role_encoded}
 use Rattle.shim_targets.proofs.Users.{import_of}
 use Rattle.shim_targets.proofs.NoOptions.{role_without}
 use Rattle.world_shims.specs.WorldShims.{shims_of}
@@ -69,17 +72,29 @@ module _ (w : ComponentWorld) (ok : IsEncodable w) (has : AllByRecursion (HasShi
         realloc = λ h.
             let asked : IsTrue (needs (lower_needs w j.0.core.role) 2) = subst (λ (p : UserModule × Import). IsTrue (needs (lower_needs w p.1) 2)) (sym same) h in
             let of : j.0.of ≡ i.of = sym (owner_by_realloc w j.0.of j.0.core.role asked) ∙ (ap (λ (p : UserModule × Import). p.0) same ∙ owner_by_realloc w i.of i.core.role h) in
-            subst (λ (m : UserModule). IsSome (lower_realloc w m)) of (offered.realloc asked);
+            let role : j.0.core.role ≡ i.core.role = ap (λ (p : UserModule × Import). p.1) same in
+            subst (λ (r : Import). IsSome (role_realloc w i.of r)) role (subst (λ (m : UserModule). IsSome (role_realloc w m j.0.core.role)) of (offered.realloc asked));
       }
 
   through : shared_memory w ≡ None → (i : UserImport) → Contains (user_imports w) i → needs (lower_needs w i.core.role) 1 ≡ true → (encoding : StringEncoding) → import_encoding w i.of i.core.role ≡ Some encoding → (kind : ShimKind) → kind_of_import i.of i.core.role encoding ≡ Some kind → HasLowerOptions w i
   through unshared i there e encoding encoded kind is = by_shim i there encoding encoded kind is (shim_there w ok unshared i there encoding encoded e kind is)
 
   -- those of a function that always has one
-  message_one : (i : UserImport) → Contains (user_imports w) i → (encoding : StringEncoding) → i.core.role ≡ imports.ErrorContextDebugMessage encoding → HasLowerOptions w i
-  message_one i there encoding is =
-      by_shim i there encoding (role_encoded w ok i there encoding (λ m. ap (λ (r : Import). encoding_in r m) is)) (kinds.ErrorContextDebugMessage (which_of i.of) encoding) (ap (λ (r : Import). kind_of_import i.of r encoding) is)
-      (message_there w i.of (import_of w i there).world_module.found (import_found w ok i there) i.core (import_of w i there).there encoding is)
+  always_one : (of : UserModule) (name field : List ℕ) (role : Import) → Contains (user_imports w) (record { of = of; core = record { module_name = name; field = field; role = role } }) → is_always_shimmed w role ≡ true →
+      HasLowerOptions w (record { of = of; core = record { module_name = name; field = field; role = role } })
+  always_one of name field role there always =
+      let i : UserImport = record { of = of; core = record { module_name = name; field = field; role = role } } in
+      let a : AlwaysShimmed w i = always_shimmed w ok of name field role there always in
+      by_shim i there a.encoding a.encoded a.kind a.is a.there
+
+  -- those of a read or a write, where main imports no memory
+  access_one : shared_memory w ≡ None → (i : UserImport) → Contains (user_imports w) i → (a : Accessed) → accessed_of i.core.role ≡ Some a → needs (lower_needs w i.core.role) 1 ≡ true → HasLowerOptions w i
+  access_one unshared i there a is e =
+      let own : AccessImport w i.of i.core.role a = access_import_of w i.of i.core.role a is in
+      let m : ValidatedModule = (import_of w i there).world_module.found in
+      let encoding : StringEncoding = payload_encoding a.info a.info.ty m in
+      let encoded : import_encoding w i.of i.core.role ≡ Some encoding = ap (option_and_then (encoding_in i.core.role)) (import_found w ok i there) ∙ own.encoded m in
+      through unshared i there e encoding encoded (access_kind (which_of i.of) a) (own.kind encoding)
 
   -- where main imports no memory
   unshared_one : shared_memory w ≡ None → (of : UserModule) (name field : List ℕ) (role : Import) → Contains (user_imports w) (record { of = of; core = record { module_name = name; field = field; role = role } }) → IsSuppliedImport w of role → (b : Bool) →
@@ -107,22 +122,30 @@ module _ (w : ComponentWorld) (ok : IsEncodable w) (has : AllByRecursion (HasShi
       let i : UserImport = record { of = of; core = record { module_name = name; field = field; role = imports.ErrorContextNew own } } in
       through unshared i there e own (role_encoded w ok i there own (λ m. refl)) _ refl
   unshared_one unshared of name field (imports.ErrorContextDebugMessage own) there encoded true e =
-      message_one (record { of = of; core = record { module_name = name; field = field; role = imports.ErrorContextDebugMessage own } }) there own refl
+      always_one of name field (imports.ErrorContextDebugMessage own) there refl
+  unshared_one unshared of name field (imports.StreamRead p is_async) there encoded true e =
+      access_one unshared (record { of = of; core = record { module_name = name; field = field; role = imports.StreamRead p is_async } }) there (access_to p ends.StreamRead is_async) refl e
+  unshared_one unshared of name field (imports.StreamWrite p is_async) there encoded true e =
+      access_one unshared (record { of = of; core = record { module_name = name; field = field; role = imports.StreamWrite p is_async } }) there (access_to p ends.StreamWrite is_async) refl e
+  unshared_one unshared of name field (imports.FutureRead p is_async) there encoded true e =
+      access_one unshared (record { of = of; core = record { module_name = name; field = field; role = imports.FutureRead p is_async } }) there (access_to p ends.FutureRead is_async) refl e
+  unshared_one unshared of name field (imports.FutureWrite p is_async) there encoded true e =
+      access_one unshared (record { of = of; core = record { module_name = name; field = field; role = imports.FutureWrite p is_async } }) there (access_to p ends.FutureWrite is_async) refl e
   unshared_one unshared of name field role there encoded true e = absurd (true≢false (sym e))
 
   -- where main imports its memory, that is there, and so is the realloc with which the function was lowered
   one : (i : UserImport) → Contains (user_imports w) i → IsSuppliedImport w i.of i.core.role → HasLowerOptions w i
   one i there supplied = by (shared_memory w) refl
     where
-      asked : IsSome (shared_memory w) → (b : Bool) → is_always_shimmed i.core.role ≡ b → IsTrue (needs (lower_needs w i.core.role) 2) → IsSome (lower_realloc w i.of)
-      asked shared true is h = let m = message_of i.core.role is in (message_one i there m.0 m.1).realloc h
+      asked : IsSome (shared_memory w) → (b : Bool) → is_always_shimmed w i.core.role ≡ b → IsTrue (needs (lower_needs w i.core.role) 2) → IsSome (role_realloc w i.of i.core.role)
+      asked shared true is h = (always_one i.of i.core.module_name i.core.field i.core.role there is).realloc h
       asked shared false apart h = supplied.realloc shared apart h
 
       by : (o : Option MemoryType) → shared_memory w ≡ o → HasLowerOptions w i
       by None e = unshared_one e i.of i.core.module_name i.core.field i.core.role there supplied (needs (lower_needs w i.core.role) 1) refl
       by (Some type) e = record {
         memory = λ h. ap is_some (ap (λ o. option_or o (option_map (λ m. m.1) (first_memory w.main.exports.exports))) e);
-        realloc = asked (ap is_some e) (is_always_shimmed i.core.role) refl;
+        realloc = asked (ap is_some e) (is_always_shimmed w i.core.role) refl;
       }
 
 pub all_lowered : (w : ComponentWorld) → IsEncodable w → AllByRecursion (HasShimOptions w) (shims_of w) → AllByRecursion (λ (i : UserImport). IsSuppliedImport w i.of i.core.role) (user_imports w) → AllByRecursion (HasLowerOptions w) (user_imports w)

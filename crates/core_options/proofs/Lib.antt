@@ -6,3 +6,4 @@ pub mod Memories
 pub mod Reallocs
 pub mod Returning
 pub mod MemoryFunctions
+pub mod PayloadFunctions

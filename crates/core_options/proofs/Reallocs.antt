@@ -5,7 +5,7 @@ use Rattle.std.specs.Option.{option_map, option_and_then}
 use denote.Ref.{Bor}
 use Rattle.comp_bytes.specs.declared.def.Def.{Def}
 use Rattle.comp_roles.specs.Lookups.{first_export}
-use Rattle.comp_roles.specs.Reallocs.{is_general_realloc, is_import_realloc, is_export_realloc, realloc_for}
+use Rattle.comp_roles.specs.Reallocs.{is_general_realloc, is_import_realloc, is_export_realloc, is_realloc_of, realloc_for}
 use Rattle.comp_roles.specs.declared.exports.Export.{Export}
 use Rattle.comp_worlds.specs.Lookups.{is_library, module_name, main_realloc_if, resolved_realloc, lent_export}
 use Rattle.comp_worlds.specs.Worlds.{IsWorld}
@@ -101,3 +101,8 @@ module _ (w : ComponentWorld) (ok : IsWorld w) (which : CustomModule) (m : Valid
 
   pub export_made : (o : Option Lent) → lent_export o ≡ resolved_realloc w (module_name which) (realloc_for is_export_realloc m.exports.exports) → IfSome (option_map (placed_export main instance) o) (IsInstanceExport w ds)
   export_made o e = found_made is_export_realloc (export_realloc_offered w m is_user) o e
+
+  -- so is that of reads of a stream or a future
+  pub payload_made : (o : Option Lent) (imported : Bool) → lent_export o ≡ resolved_realloc w (module_name which) (realloc_for (is_realloc_of imported) m.exports.exports) → IfSome (option_map (placed_export main instance) o) (IsInstanceExport w ds)
+  payload_made o true e = import_made o e
+  payload_made o false e = export_made o e

@@ -3,7 +3,7 @@ use Rattle.std.proofs.Common.{◌≡◌, ◌∙◌, ◌⊎◌, ℕ, true, subst,
 use Rattle.comp_links.specs.Roles.{needs_encoding, import_encoding, is_main_memory, export_encoding, field_path}
 use Rattle.comp_worlds.specs.declared.world.ComponentWorld.{ComponentWorld}
 use Rattle.comp_options.specs.Options.{needs}
-use Rattle.comp_links.specs.Links.{lower_needs, lower_realloc, lift_needs, lift_realloc}
+use Rattle.comp_links.specs.Links.{lower_needs, role_realloc, lift_needs, lift_realloc}
 use Rattle.comp_links.specs.Lists.{RequiredFunction}
 use Rattle.comp_links.specs.Modules.{UserImport}
 use Rattle.comp_links.specs.Targets.{ExportRef}
@@ -49,7 +49,7 @@ pub one_export_lacks : (w : ComponentWorld) (r : RequiredFunction) (place : List
 one_export_lacks w r place none at = inr (record { required = r; present = (0, omega arith, refl); none = none; at = at })
 
 -- an option of the one import, or of the one export, that is refused
-pub one_import_refused : (w : ComponentWorld) (i : UserImport) (own : Option ExportRef) (set : ℕ) (place : List ℕ) → set ≡ lower_needs w i.core.role → place ≡ lowering_place w i.core → (own ≡ None → lower_realloc w i.of ≡ None) → (e : StateFault) →
+pub one_import_refused : (w : ComponentWorld) (i : UserImport) (own : Option ExportRef) (set : ℕ) (place : List ℕ) → set ≡ lower_needs w i.core.role → place ≡ lowering_place w i.core → (own ≡ None → role_realloc w i.of i.core.role ≡ None) → (e : StateFault) →
     IsOptionRefusal w set own place e → IsCauseAmong w (i ∷ []) [] e
 one_import_refused w i own set place needed named none faults.Memory h = tt
 one_import_refused w i own set place needed named none faults.TlsTypes h = absurd h

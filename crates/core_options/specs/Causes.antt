@@ -31,9 +31,9 @@ use Rattle.comp_links.specs.Targets.{ExportRef}
 use Rattle.comp_terms.specs.Shimmed.{shim_name}
 use Rattle.comp_links.specs.Modules.{UserImport, user_imports}
 use Rattle.comp_links.specs.Lists.{RequiredFunction, required_functions}
-use Rattle.comp_links.specs.Links.{lower_needs, lower_realloc, lift_needs, lift_realloc}
+use Rattle.comp_links.specs.Links.{lower_needs, role_realloc, lift_needs, lift_realloc, is_always_shimmed}
 use Rattle.core_options.specs.MainOptions.{HasLowerOptions, HasLiftOptions}
-use Rattle.comp_links.specs.Roles.{needs_encoding, import_encoding, is_always_shimmed, is_main_memory, export_encoding, field_path}
+use Rattle.comp_links.specs.Roles.{needs_encoding, import_encoding, is_main_memory, export_encoding, field_path}
 use Rattle.comp_links.specs.Supplied.{IsSuppliedImport}
 
 -- a fault of the builder, as one of the state
@@ -65,7 +65,7 @@ pub record LacksExportEncoding (w : ComponentWorld) (functions : List RequiredFu
 -- imports its memory, so that the function is made before main is instantiated, unless it has a
 -- shim always; else its shim
 abbrev pub lowering_place : ComponentWorld → CoreImport → List ℕ
-lowering_place w i = if not (is_always_shimmed i.role) && is_some (shared_memory w) then field_path i.module_name i.field else shim_name i i.role
+lowering_place w i = if not (is_always_shimmed w i.role) && is_some (shared_memory w) then field_path i.module_name i.field else shim_name i i.role
 
 -- one of these core imports is lowered, or returns, with an option of this bit
 pub record NeedsLowering (w : ComponentWorld) (bit : ℕ) (imports : List UserImport) (place : List ℕ) : Type 0 where
@@ -96,7 +96,7 @@ pub record LacksMemory (w : ComponentWorld) (imports : List UserImport) (functio
 -- a function is lowered, or lifted, with a realloc, and there is none for the module
 pub record LacksLowerRealloc (w : ComponentWorld) (imports : List UserImport) (place : List ℕ) : Type 0 where
   pub needed : NeedsLowering w 2 imports place
-  pub none : lower_realloc w needed.given.of ≡ None
+  pub none : role_realloc w needed.given.of needed.given.core.role ≡ None
 
 pub record LacksLiftRealloc (w : ComponentWorld) (functions : List RequiredFunction) (place : List ℕ) : Type 0 where
   pub needed : NeedsLift w 2 functions place

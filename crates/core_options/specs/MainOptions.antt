@@ -1,9 +1,10 @@
 -- What the options of lowerings and lifts name (Canonical ABI: `canon lower`, `canon lift` and
 -- their options): exports of the instances of user modules.
-use Rattle.std.specs.Prelude.{◌≡◌, ℕ, List, Option, Some, None, IsTrue, IfSome, IsSome, slice_get}
+use Rattle.std.specs.Prelude.{◌≡◌, ℕ, List, [], Option, Some, None, IsTrue, IfSome, IsSome, slice_get}
 use Rattle.std.specs.List.{AllZip}
 use denote.Ref.{Bor}
 use Rattle.standard_kinds.specs.declared.kinds.ExportKind.TheVariants as kinds
+use Rattle.built_ins.specs.Payloads.{PayloadCall}
 use Rattle.comp_lists.specs.Found.{found}
 use Rattle.comp_bytes.specs.declared.canon.CanonicalOption.{CanonicalOption}
 use Rattle.comp_bytes.specs.declared.canon.Intrinsic.{Intrinsic}
@@ -16,17 +17,20 @@ use Rattle.core_types.specs.declared.types.MemoryType.{MemoryType}
 use Rattle.comp_options.specs.Options.{needs, memory_bit, realloc_bit}
 use Rattle.comp_roles.specs.Lookups.{first_memory}
 use Rattle.comp_roles.specs.declared.offered.ExternType.TheVariants as externs
+use Rattle.comp_roles.specs.declared.payloads.PayloadFuncKind.{PayloadFuncKind}
+use Rattle.comp_roles.specs.declared.payloads.PayloadFuncKind.TheVariants as ends
+use Rattle.comp_roles.specs.declared.payloads.PayloadType.{PayloadType}
 use Rattle.comp_worlds.specs.declared.world.ComponentWorld.{ComponentWorld}
 use Rattle.comp_worlds.specs.declared.world.ValidatedModule.{ValidatedModule}
 use Rattle.comp_worlds.specs.Lookups.{module_name}
 use Rattle.comp_worlds.specs.Offered.{memory_of_main}
 use Rattle.comp_worlds.specs.declared.modules.CustomModule.{CustomModule}
 use Rattle.comp_worlds.specs.declared.modules.CustomModule.TheVariants as named
-use Rattle.comp_links.specs.Targets.{UserModule as User, Main, Adapter, ExportRef, WorldFunction, TargetOption, NoType, operand_if_any, BuiltIn}
+use Rattle.comp_links.specs.Targets.{UserModule as User, Main, Adapter, ExportRef, WorldFunction, TargetOption, NoType, operand_if_any, payload_operand, BuiltIn}
 use Rattle.comp_links.specs.Modules.{WorldModule, user_modules, module_found, UserImport}
 use Rattle.comp_links.specs.Lists.{IsOriginOf, RequiredFunction}
 use Rattle.comp_trees.specs.Trees.{Origin, FunctionTree}
-use Rattle.comp_links.specs.Links.{task_return, set_wait, set_poll, error_new, error_message, options_in, lower_needs, lower_realloc, lift_needs, lift_realloc}
+use Rattle.comp_links.specs.Links.{task_return, set_wait, set_poll, error_new, error_message, stream_read, stream_write, future_read, future_write, options_in, lower_needs, role_realloc, lift_needs, lift_realloc}
 use Rattle.comp_terms.specs.Terms.{CoreExport, TermOption, IsImportedFunction, IsInstanceOf, IsExported, IsOption}
 use Rattle.comp_terms.specs.Planned.{IsItemFor, IsTypeOf, IsExportFor, memory_from, main_memory, IsReallocFor, IsOptionFor}
 use Rattle.shim_plan.specs.Needed.{function_options, function_encoding}
@@ -168,13 +172,37 @@ pub record HasLiftOptions (w : ComponentWorld) (r : RequiredFunction) : Type 0 w
 -- and that a call of an imported function needs
 pub record HasLowerOptions (w : ComponentWorld) (i : UserImport) : Type 0 where
   pub memory : IsTrue (needs (lower_needs w i.core.role) memory_bit) → IsSome (memory_of_main w.main)
-  pub realloc : IsTrue (needs (lower_needs w i.core.role) realloc_bit) → IsSome (lower_realloc w i.of)
+  pub realloc : IsTrue (needs (lower_needs w i.core.role) realloc_bit) → IsSome (role_realloc w i.of i.core.role)
 
 -- ---- returns
 
 -- the core function of this index returns a result of this type, with these options
 abbrev pub IsReturn : ComponentWorld → List Def → Option Ty → List TargetOption → ℕ → Type 0
 IsReturn w ds result options index = IsItemFor w ds spaces.CoreFunc index (BuiltIn task_return (operand_if_any result) options)
+
+-- ---- streams and futures
+
+-- the core function of this index is this function of a stream or a future
+abbrev pub IsPayloadFunction : ComponentWorld → List Def → PayloadCall → ℕ → Type 0
+IsPayloadFunction w ds c index = IsItemFor w ds spaces.CoreFunc index (BuiltIn c.intrinsic (payload_operand c.info.ty) [])
+
+-- a read or a write, by its name
+abbrev pub access_name : PayloadFuncKind → Intrinsic
+access_name ends.FutureRead = future_read
+access_name ends.FutureWrite = future_write
+access_name ends.StreamRead = stream_read
+access_name ends.StreamWrite = stream_write
+
+-- of the type at this index, with these options
+abbrev pub access_intrinsic : PayloadFuncKind → (type : ℕ) → List CanonicalOption → Intrinsic
+access_intrinsic ends.FutureRead type options = intrinsics.FutureRead type options
+access_intrinsic ends.FutureWrite type options = intrinsics.FutureWrite type options
+access_intrinsic ends.StreamRead type options = intrinsics.StreamRead type options
+access_intrinsic ends.StreamWrite type options = intrinsics.StreamWrite type options
+
+-- the core function of this index is it, of this stream or future, with these options
+abbrev pub IsAccess : ComponentWorld → List Def → PayloadFuncKind → PayloadType → List TargetOption → ℕ → Type 0
+IsAccess w ds kind ty options index = IsItemFor w ds spaces.CoreFunc index (BuiltIn (access_name kind) (payload_operand ty) options)
 
 -- ---- waits and error contexts
 

@@ -8,7 +8,8 @@
 //! In reading order: `fault` (why a step is refused), `modules` (user modules, and aliases of what
 //! their instances export), `made` (which adapters have to be instantiated before another one),
 //! `options` (the options of a function), `returns` (`task.return`, with its options),
-//! `memory_functions` (waits, and functions of error contexts, with theirs).
+//! `memory_functions` (waits, and functions of error contexts, with theirs), `payloads` (functions of
+//! streams and futures, with those of reads and writes).
 #![tactic(auto)]
 
 mod fault;
@@ -16,6 +17,7 @@ mod made;
 mod memory_functions;
 mod modules;
 mod options;
+mod payloads;
 mod returns;
 
 pub use fault::StateFault;
@@ -23,7 +25,8 @@ pub use made::check_made;
 pub use memory_functions::{memory_for, memory_function};
 pub use modules::{
     InstanceExport, UserInstances, UserModule, alias_if, alias_of, export_realloc_of,
-    import_realloc_of,
+    import_realloc_of, payload_realloc_of,
 };
 pub use options::{OptionSources, encoding_of, exported_memory, list_options, options_for};
+pub use payloads::{access_function, payload_encoding, payload_function};
 pub use returns::return_from;

@@ -7,7 +7,8 @@ ghost use Rattle.std.specs.Prelude.{◌≡◌, [], List, ℕ, Some, IfOk, IfErr,
 ghost use Rattle.std.specs.Option.{option_map};
 ghost use Rattle.comp_bytes.specs.declared.def.Def.{Def};
 ghost use Rattle.comp_items.specs.Items.{Extends};
-ghost use Rattle.comp_links.specs.Links.{lift_realloc, lower_realloc};
+ghost use Rattle.comp_links.specs.Links.{lift_realloc, realloc_of, lower_realloc};
+ghost use Rattle.comp_roles.specs.Reallocs.{is_realloc_of};
 ghost use Rattle.comp_links.specs.Modules.{module_found, user_modules};
 ghost use Rattle.comp_terms.specs.Rules.{Grows};
 ghost use Rattle.comp_terms.specs.Terms.{IsInstanceOf};
@@ -164,6 +165,31 @@ pub fn export_realloc_of<'a>(
 {
     let any = WorldKey::Interface(InterfaceId { index: 0 });
     let own = validated.exports.export_realloc_for(&any, "");
+    let found = world.resolve_realloc(which, own);
+    found_export(found, main, instance)
+}
+
+/// The realloc of reads of a stream or a future, which is one of a function that is imported, or
+/// exported, like [`import_realloc_of`].
+pub fn payload_realloc_of<'a>(
+    world: &'a ComponentWorld,
+    which: CustomModule<'a>,
+    validated: &'a ValidatedModule,
+    main: u32,
+    instance: u32,
+    imported: bool,
+) -> Option<InstanceExport<'a>>
+    requires valid { IsEncodable world.now }
+    requires named { module_found world.now (user_of which) ≡ Some validated.now }
+    ensures same { option_map export_ref_of result
+        ≡ realloc_of world.now (user_of which.entry) (is_realloc_of imported) }
+    ensures made { (ds : List Def) (number : ℕ)
+        → IsInstanceOf ds main 0
+        → IsInstanceOf ds instance number
+        → slice_get (user_modules world.now) number ≡ Some (module_named which.entry validated.now)
+        → IfSome result (IsInstanceExport world.now ds) }
+{
+    let own = validated.exports.payload_realloc(imported);
     let found = world.resolve_realloc(which, own);
     found_export(found, main, instance)
 }

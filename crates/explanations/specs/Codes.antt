@@ -2,7 +2,7 @@
 -- own.)
 use Rattle.std.specs.Prelude.{ℕ, List, codes, Option, Some, None, if◌then◌else◌}
 use Rattle.std.specs.Str.{bytes_eq}
-use Rattle.explanations.specs.declared.texts.TheConstants.{E1, E3, E5, E6, E7, E8, E11, E15, E16, C1, C2, C4, C5, P2, P3, P4, P5, P6, P7, P8, P9, P10, P11, P12, P14, R1, F2, F5, F6, F7, F8, F9, F10, F11, F12, F13, F14, F15}
+use Rattle.explanations.specs.declared.texts.TheConstants.{E1, E3, E5, E6, E7, E8, E11, E15, E16, C1, C2, C4, C5, P2, P3, P4, P5, P6, P7, P8, P9, P10, P11, P12, P14, R1, F2, F5, F6, F7, F8, F9, F10, F11, F12, F13, F14, F15, L1, L2, L3, L4, L5, L6, L7, L8, L9, L10, L11, L12}
 
 abbrev pub or_else : {A : Type 0} → Option A → Option A → Option A
 or_else (Some x) other = Some x
@@ -61,5 +61,22 @@ of_fitting code =
     else (if bytes_eq code (codes "F15") then Some F15.now
     else None)))))))))))
 
+-- the codes of warnings
+abbrev pub of_warning : List ℕ → Option (List ℕ)
+of_warning code =
+    if bytes_eq code (codes "L1") then Some L1.now
+    else (if bytes_eq code (codes "L2") then Some L2.now
+    else (if bytes_eq code (codes "L3") then Some L3.now
+    else (if bytes_eq code (codes "L4") then Some L4.now
+    else (if bytes_eq code (codes "L5") then Some L5.now
+    else (if bytes_eq code (codes "L6") then Some L6.now
+    else (if bytes_eq code (codes "L7") then Some L7.now
+    else (if bytes_eq code (codes "L8") then Some L8.now
+    else (if bytes_eq code (codes "L9") then Some L9.now
+    else (if bytes_eq code (codes "L10") then Some L10.now
+    else (if bytes_eq code (codes "L11") then Some L11.now
+    else (if bytes_eq code (codes "L12") then Some L12.now
+    else None)))))))))))
+
 abbrev pub explanation : List ℕ → Option (List ℕ)
-explanation code = or_else (of_encoding code) (or_else (of_lowering code) (of_fitting code))
+explanation code = or_else (of_encoding code) (or_else (of_lowering code) (or_else (of_fitting code) (of_warning code)))

@@ -1,11 +1,12 @@
 //! The text of each code.
 
 ghost use Rattle.std.specs.Prelude.{◌≡◌, option_map};
-ghost use Rattle.explanations.specs.Codes.{of_encoding, of_lowering, of_fitting, explanation};
+ghost use Rattle.explanations.specs.Codes.{of_encoding, of_lowering, of_fitting, of_warning, explanation};
 
 use crate::texts::{
     C1, C2, C4, C5, E1, E3, E5, E6, E7, E8, E11, E15, E16, F2, F5, F6, F7, F8, F9, F10, F11, F12,
-    F13, F14, F15, P2, P3, P4, P5, P6, P7, P8, P9, P10, P11, P12, P14, R1,
+    F13, F14, F15, L1, L2, L3, L4, L5, L6, L7, L8, L9, L10, L11, L12, P2, P3, P4, P5, P6, P7, P8,
+    P9, P10, P11, P12, P14, R1,
 };
 
 /// The codes of the encoder, and of components that are read.
@@ -73,6 +74,27 @@ fn fitting(code: &str) -> Option<&'static str>
     }
 }
 
+/// The codes of warnings.
+fn warning(code: &str) -> Option<&'static str>
+    ensures { option_map (λ t. t.now) result ≡ of_warning code.now }
+{
+    match code {
+        "L1" => Some(L1),
+        "L2" => Some(L2),
+        "L3" => Some(L3),
+        "L4" => Some(L4),
+        "L5" => Some(L5),
+        "L6" => Some(L6),
+        "L7" => Some(L7),
+        "L8" => Some(L8),
+        "L9" => Some(L9),
+        "L10" => Some(L10),
+        "L11" => Some(L11),
+        "L12" => Some(L12),
+        _ => None,
+    }
+}
+
 /// What a code means that the program prints, and what to do; nothing for another word.
 pub fn explanation(code: &str) -> Option<&'static str>
     ensures { option_map (λ t. t.now) result ≡ explanation code.now }
@@ -83,5 +105,8 @@ pub fn explanation(code: &str) -> Option<&'static str>
     if let Some(text) = lowering(code) {
         return Some(text);
     }
-    fitting(code)
+    if let Some(text) = fitting(code) {
+        return Some(text);
+    }
+    warning(code)
 }

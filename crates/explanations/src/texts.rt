@@ -1,8 +1,8 @@
 //! What codes mean, and what to do. `tests/docs.py --write` writes this file, after docs/ERRORS.md.
 
 pub(crate) const E1: &str = "\
-    E1: out of memory, wherever in `new`, `record`, `links` or `explain`; or before the\n\
-    program's own arguments were read.\n\
+    E1: out of memory, wherever in `new`, `record`, `links`, `lint` or `explain`; or before\n\
+    the program's own arguments were read.\n\
     Example: `E1 Memory`\n\
     What to do: about two copies of the module have to fit in memory.\n";
 
@@ -28,15 +28,16 @@ pub(crate) const E6: &str = "\
 
 pub(crate) const E7: &str = "\
     E7: a function is lowered or lifted with a memory, or its `task.return` needs one, or a\n\
-    module imports a wait, a poll or a function of error contexts, or an adapter or a library\n\
-    imports main's memory, and main neither imports nor exports one that has the role\n\
-    `memory`. For an imported function `place` is the name of its shim,\n\
-    `indirect-MODULE-FIELD` with the module and field of the core import; for a `task.return`\n\
-    it is `task-return-FUNCTION`; for the others of these `waitable-set.wait`,\n\
-    `waitable-set.poll`, `error-new` and `error-debug-message`; for an exported one it is the\n\
-    function's name; for an imported memory it is `MODULE::FIELD`. A function needs a memory\n\
-    where it has a string or a list in a parameter or its result, more than 16 core values as\n\
-    parameters, or more than one as the result.\n\
+    module imports a wait, a poll, a function of error contexts, or a read from a stream or a\n\
+    future or a write to it, or an adapter or a library imports main's memory, and main\n\
+    neither imports nor exports one that has the role `memory`. For an imported function\n\
+    `place` is the name of its shim, `indirect-MODULE-FIELD` with the module and field of the\n\
+    core import; for a `task.return` it is `task-return-FUNCTION`; for the others of these\n\
+    `waitable-set.wait`, `waitable-set.poll`, `error-new` and `error-debug-message`; for a\n\
+    read or a write it is `MODULE-FIELD`; for an exported one it is the function's name; for\n\
+    an imported memory it is `MODULE::FIELD`. A function needs a memory where it has a string\n\
+    or a list in a parameter or its result, more than 16 core values as parameters, or more\n\
+    than one as the result.\n\
     Example: `E7 NoMemory place=\"indirect-$root-log\"`, `E7 NoMemory place=\"g\"`, `E7 NoMemory\n\
     place=\"env::memory\"`\n\
     What to do: export a memory from main, and give it the role `memory`.\n";
@@ -46,9 +47,10 @@ pub(crate) const E8: &str = "\
     the role `import-realloc`, or else `realloc`; exports `export-realloc`, or else `realloc`;\n\
     a library that has none takes main's `realloc`. An import needs it for a string or a list\n\
     in its result, or where it reads the debug message of an error context, an export for one\n\
-    in a parameter, or for more than 16 core values as parameters. `place` is as for E7, but\n\
-    `MODULE::FIELD` of the import where main imports its memory, since it has no shim then; a\n\
-    debug message has one there too.\n\
+    in a parameter, a read from a stream or a future for one in its elements, as an import or\n\
+    an export, whichever its function is, or for more than 16 core values as parameters.\n\
+    `place` is as for E7, but `MODULE::FIELD` of the import where main imports its memory,\n\
+    since it has no shim then; a debug message and a read have one there too.\n\
     Example: `E8 NoRealloc place=\"indirect-a:b/i-f\"`, `E8 NoRealloc place=\"g\"`\n\
     What to do: export a realloc, and give it its role.\n";
 
@@ -142,7 +144,7 @@ pub(crate) const P7: &str = "\
 pub(crate) const P8: &str = "\
     P8: something that can't be encoded yet, by its kind, or a type that passes a limit;\n\
     docs/ERRORS.md lists the kinds.\n\
-    Example: `P8 LeftOut what=\"stream-new\"`\n\
+    Example: `P8 LeftOut what=\"flags\"`\n\
     What to do: leave it out of the world, or wait.\n";
 
 pub(crate) const P9: &str = "\
@@ -257,3 +259,73 @@ pub(crate) const R1: &str = "\
     records, and a record has one.\n\
     Example: `R1 SeveralEncodings`\n\
     What to do: write a record for each of them by hand.\n";
+
+pub(crate) const L1: &str = "\
+    L1: a name isn't in kebab case: labels are words joined by hyphens, each in letters of one\n\
+    case and digits, of which the first begins with a letter; names of functions may say of\n\
+    which resource they are, and ids of interfaces have a namespace, a package and a name,\n\
+    which functions and types of the world itself may have too.\n\
+    Example: `L1 NotKebab \"main\" \"interfaces\" \"a:b/i\" \"functions\" \"f\" \"params\" \"My_Key\"`\n\
+    What to do: rename it.\n";
+
+pub(crate) const L2: &str = "\
+    L2: a name is there before in its list: of labels, of parameters, of the types and\n\
+    functions of an interface, or of a side of the world.\n\
+    Example: `L2 NameTwice \"main\" \"interfaces\" \"a:b/i\" \"types\" \"r\" \"x\"`\n\
+    What to do: rename one.\n";
+
+pub(crate) const L3: &str = "\
+    L3: a name differs from one before it in its list in the case of letters alone, or in that\n\
+    the one is of a method and the other of a static function.\n\
+    Example: `L3 NameCase \"main\" \"imports\" \"GET\"`\n\
+    What to do: rename one.\n";
+
+pub(crate) const L4: &str = "\
+    L4: a resource is the type of a value, where only a handle of it can be: of a parameter,\n\
+    of a result, or in a type.\n\
+    Example: `L4 ResourceValue \"main\" \"interfaces\" \"a:b/i\" \"functions\" \"f\" \"result\"`\n\
+    What to do: take `own` or `borrow` of it.\n";
+
+pub(crate) const L5: &str = "\
+    L5: a result holds a borrowed handle, perhaps in a type that it names.\n\
+    Example: `L5 BorrowResult \"main\" \"imports\" \"f\" \"result\"`\n\
+    What to do: give an owned handle.\n";
+
+pub(crate) const L6: &str = "\
+    L6: a constructor gives neither an owned handle of its resource, nor a result with one for\n\
+    success.\n\
+    Example: `L6 ConstructorResult \"main\" \"interfaces\" \"a:b/i\" \"functions\" \"[constructor]r\"`\n\
+    What to do: give `own` of the resource.\n";
+
+pub(crate) const L7: &str = "\
+    L7: the first parameter of a method isn't a borrowed handle of its resource, or isn't\n\
+    named `self`.\n\
+    Example: `L7 MethodSelf \"main\" \"interfaces\" \"a:b/i\" \"functions\" \"[method]r.f\"`\n\
+    What to do: put `self`, a `borrow` of the resource, in front.\n";
+
+pub(crate) const L8: &str = "\
+    L8: a record, a variant, an enum or flags without a name are in a parameter, in a result,\n\
+    or in another type.\n\
+    Example: `L8 UnnamedType \"main\" \"imports\" \"f\" \"params\" \"x\"`\n\
+    What to do: give the type a name, and refer to that.\n";
+
+pub(crate) const L9: &str = "\
+    L9: a stream has characters for its items, as `stream<char>`.\n\
+    Example: `L9 CharStream \"main\" \"imports\" \"f\" \"result\"`\n\
+    What to do: take a stream of bytes, or of texts.\n";
+
+pub(crate) const L10: &str = "\
+    L10: a module has no record and no package, and imports nothing: its component is empty.\n\
+    Example: `L10 NoRecord \"main\"`\n\
+    What to do: attach a record (docs/RECORD.md).\n";
+
+pub(crate) const L11: &str = "\
+    L11: a record gives a role to a core import or core export that the module lacks, so that\n\
+    it has no effect.\n\
+    Example: `L11 FieldMissing \"main\" \"core-exports\" \"make_buckt\"`\n\
+    What to do: correct the names of the role, or drop it.\n";
+
+pub(crate) const L12: &str = "\
+    L12: a post-return is that of a function which no core export has the role of.\n\
+    Example: `L12 PostReturnAlone \"main\" \"core-exports\" \"cabi_post_f\"`\n\
+    What to do: add the role of the function.\n";

@@ -35,6 +35,8 @@ use Rattle.wit_data.specs.declared.worlds.WorldItem.{WorldItem}
 use Rattle.wit_data.specs.declared.worlds.WorldItem.TheVariants as world_items
 use Rattle.world_values.specs.Items.{no_items, functions_of, root_function_at, function_of_item}
 use Rattle.world_values.specs.Mentions.{interface_in}
+use Rattle.built_ins.specs.BuiltIns.{plain_import_type}
+use Rattle.built_ins.specs.Payloads.{named_call}
 use Rattle.comp_roles.specs.CoreTypes.{value_type as value_of, core_type, called_type}
 use Rattle.comp_roles.specs.declared.exports.Export.{Export}
 use Rattle.comp_roles.specs.declared.exports.Export.TheVariants as exports
@@ -43,8 +45,8 @@ use Rattle.comp_roles.specs.declared.imports.Import.TheVariants as imports
 use Rattle.comp_roles.specs.declared.offered.ExternType.{ExternType}
 use Rattle.comp_roles.specs.declared.offered.ExternType.TheVariants as externs
 use Rattle.comp_worlds.proofs.Matched.{one_function}
-use Rattle.comp_worlds.specs.Typed.{post_return_type, type_of_import, type_of_export}
-use Rattle.record_core_types.specs.Asked.{function, number, called, post_return}
+use Rattle.comp_worlds.specs.Typed.{post_return_type, type_of_built_in, type_of_import, type_of_export}
+use Rattle.record_core_types.specs.Asked.{function, number, called, post_return, expected_import}
 use Rattle.record_core_types.specs.Fitting.{are_same, is_same, is_asked, function_type, is_function, is_memory, is_of_type, fits_import, fits_export}
 use Rattle.record_core_types.specs.Offered.{value_type, value_types, func_type, memory_type, extern_type, item_type}
 use Rattle.gathered_worlds.specs.Guarantees.{world_id}
@@ -133,7 +135,12 @@ initializing = record { params = []; results = []; indirect_params = false; retp
 abbrev joining : WasmSignature
 joining = record { params = numbers.I32 ∷ numbers.I32 ∷ []; results = []; indirect_params = false; retptr = false }
 
--- a wait takes a set and an address, and making an error context an address and a length
+-- a read or a write of a stream takes its end, an address, and how many elements are there
+abbrev accessing : WasmSignature
+accessing = record { params = numbers.I32 ∷ numbers.I32 ∷ numbers.I32 ∷ []; results = numbers.I32 ∷ []; indirect_params = false; retptr = false }
+
+-- a wait takes a set and an address, making an error context an address and a length, and a read or a write of a future its
+-- end and an address
 abbrev waiting : WasmSignature
 waiting = record { params = numbers.I32 ∷ numbers.I32 ∷ []; results = numbers.I32 ∷ []; indirect_params = false; retptr = false }
 
@@ -173,6 +180,49 @@ function_is : (o : Option ExternType) (type : FuncType) → is_of_type o type �
 function_is (Some (externs.Func f)) type fits = ap (λ (x : FuncType). Some (externs.Func x)) (one_function f type fits)
 function_is o type fits = absurd (true≢false (sym fits))
 
+-- ---- built-in functions
+
+-- one of no type
+plain_typed : (core : CoreModule) (r : Resolve) (role : Import) (e : EntityType) (ty : ExternType) → is_function core e (expected_import r world_id role) ≡ true
+    → option_map externs.Func (plain_import_type role) ≡ Some ty → extern_type core e ≡ Some ty
+plain_typed core r imports.ExportedTaskCancel e ty fits is = entity_of core e initializing fits ∙ is
+plain_typed core r imports.BackpressureInc e ty fits is = entity_of core e initializing fits ∙ is
+plain_typed core r imports.BackpressureDec e ty fits is = entity_of core e initializing fits ∙ is
+plain_typed core r imports.WaitableSetNew e ty fits is = entity_of core e (getting numbers.I32) fits ∙ is
+plain_typed core r imports.WaitableSetDrop e ty fits is = entity_of core e dropping fits ∙ is
+plain_typed core r imports.WaitableJoin e ty fits is = entity_of core e joining fits ∙ is
+plain_typed core r imports.SubtaskDrop e ty fits is = entity_of core e dropping fits ∙ is
+plain_typed core r (imports.SubtaskCancel is_async) e ty fits is = entity_of core e handling fits ∙ is
+plain_typed core r imports.ErrorContextDrop e ty fits is = entity_of core e dropping fits ∙ is
+plain_typed core r (imports.ContextGet types.I32 slot) e ty fits is = entity_of core e (getting numbers.I32) fits ∙ is
+plain_typed core r (imports.ContextGet types.I64 slot) e ty fits is = entity_of core e (getting numbers.I64) fits ∙ is
+plain_typed core r (imports.ContextSet types.I32 slot) e ty fits is = entity_of core e dropping fits ∙ is
+plain_typed core r (imports.ContextSet types.I64 slot) e ty fits is = entity_of core e (setting numbers.I64) fits ∙ is
+plain_typed core r (imports.TlsBaseGet types.I32) e ty fits is = entity_of core e (getting numbers.I32) fits ∙ is
+plain_typed core r (imports.TlsBaseGet types.I64) e ty fits is = entity_of core e (getting numbers.I64) fits ∙ is
+plain_typed core r (imports.TlsBaseSet types.I32) e ty fits is = entity_of core e dropping fits ∙ is
+plain_typed core r (imports.TlsBaseSet types.I64) e ty fits is = entity_of core e (setting numbers.I64) fits ∙ is
+plain_typed core r role e ty fits is = absurd (none-some ty is)
+
+-- one of a stream or a future, and else one of no type
+built_in_typed : (core : CoreModule) (r : Resolve) (role : Import) (e : EntityType) (ty : ExternType) → is_function core e (expected_import r world_id role) ≡ true
+    → type_of_built_in role (named_call role) ≡ Some ty → extern_type core e ≡ Some ty
+built_in_typed core r (imports.StreamNew p) e ty fits is = entity_of core e (getting numbers.I64) fits ∙ is
+built_in_typed core r (imports.StreamRead p is_async) e ty fits is = entity_of core e accessing fits ∙ is
+built_in_typed core r (imports.StreamWrite p is_async) e ty fits is = entity_of core e accessing fits ∙ is
+built_in_typed core r (imports.StreamCancelRead p is_async) e ty fits is = entity_of core e handling fits ∙ is
+built_in_typed core r (imports.StreamCancelWrite p is_async) e ty fits is = entity_of core e handling fits ∙ is
+built_in_typed core r (imports.StreamDropReadable p) e ty fits is = entity_of core e dropping fits ∙ is
+built_in_typed core r (imports.StreamDropWritable p) e ty fits is = entity_of core e dropping fits ∙ is
+built_in_typed core r (imports.FutureNew p) e ty fits is = entity_of core e (getting numbers.I64) fits ∙ is
+built_in_typed core r (imports.FutureRead p is_async) e ty fits is = entity_of core e waiting fits ∙ is
+built_in_typed core r (imports.FutureWrite p is_async) e ty fits is = entity_of core e waiting fits ∙ is
+built_in_typed core r (imports.FutureCancelRead p is_async) e ty fits is = entity_of core e handling fits ∙ is
+built_in_typed core r (imports.FutureCancelWrite p is_async) e ty fits is = entity_of core e handling fits ∙ is
+built_in_typed core r (imports.FutureDropReadable p) e ty fits is = entity_of core e dropping fits ∙ is
+built_in_typed core r (imports.FutureDropWritable p) e ty fits is = entity_of core e dropping fits ∙ is
+built_in_typed core r role e ty fits is = plain_typed core r role e ty fits is
+
 -- ---- roles
 
 module _ (r : Resolve) (present : 0 < length r.worlds) (core : CoreModule) where
@@ -200,24 +250,9 @@ module _ (r : Resolve) (present : 0 < length r.worlds) (core : CoreModule) where
   import_typed (imports.ErrorContextDebugMessage encoding) e ty fits is = entity_of core e joining fits ∙ is
   import_typed (imports.MainModuleMemory type) e ty fits is = memory_typed core e type fits ∙ is
   import_typed (imports.AdapterExport adapter name type) e ty fits is = function_is (extern_type core e) type fits ∙ is
-  import_typed imports.ExportedTaskCancel e ty fits is = entity_of core e initializing fits ∙ is
-  import_typed imports.BackpressureInc e ty fits is = entity_of core e initializing fits ∙ is
-  import_typed imports.BackpressureDec e ty fits is = entity_of core e initializing fits ∙ is
-  import_typed imports.WaitableSetNew e ty fits is = entity_of core e (getting numbers.I32) fits ∙ is
-  import_typed imports.WaitableSetDrop e ty fits is = entity_of core e dropping fits ∙ is
-  import_typed imports.WaitableJoin e ty fits is = entity_of core e joining fits ∙ is
-  import_typed imports.SubtaskDrop e ty fits is = entity_of core e dropping fits ∙ is
-  import_typed (imports.SubtaskCancel is_async) e ty fits is = entity_of core e handling fits ∙ is
-  import_typed imports.ErrorContextDrop e ty fits is = entity_of core e dropping fits ∙ is
-  import_typed (imports.ContextGet types.I32 slot) e ty fits is = entity_of core e (getting numbers.I32) fits ∙ is
-  import_typed (imports.ContextGet types.I64 slot) e ty fits is = entity_of core e (getting numbers.I64) fits ∙ is
-  import_typed (imports.ContextSet types.I32 slot) e ty fits is = entity_of core e dropping fits ∙ is
-  import_typed (imports.ContextSet types.I64 slot) e ty fits is = entity_of core e (setting numbers.I64) fits ∙ is
-  import_typed (imports.TlsBaseGet types.I32) e ty fits is = entity_of core e (getting numbers.I32) fits ∙ is
-  import_typed (imports.TlsBaseGet types.I64) e ty fits is = entity_of core e (getting numbers.I64) fits ∙ is
-  import_typed (imports.TlsBaseSet types.I32) e ty fits is = entity_of core e dropping fits ∙ is
-  import_typed (imports.TlsBaseSet types.I64) e ty fits is = entity_of core e (setting numbers.I64) fits ∙ is
-  import_typed role e ty fits is = absurd (none-some ty is)
+  import_typed (imports.MainModuleExport name kind) e ty fits is = absurd (none-some ty is)
+  import_typed (imports.Item item) e ty fits is = absurd (none-some ty is)
+  import_typed role e ty fits is = built_in_typed core r role e ty fits is
 
   -- an entity is of no type that is not required
   not_asked : (o : Option CoreFunc) → option_map_or (λ f. is_asked f None) o false ≡ true → ⊥

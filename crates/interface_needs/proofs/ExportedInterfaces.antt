@@ -29,16 +29,17 @@ use Rattle.wit_types.specs.Settings as settings
 use Rattle.type_scopes.specs.Needs.{IsLive, each_passes, function_passes, is_at_home}
 use Rattle.type_scopes.specs.Titles.{IsTitled, AscendFrom}
 use Rattle.world_values.specs.Items.{functions_of, function_of_item}
-use Rattle.world_values.specs.Mentions.{function_types, interface_types}
+use Rattle.world_values.specs.Mentions.{at_most_one, resource_of, function_types, passed_types, interface_types}
 use Rattle.comp_worlds.specs.Encodable.{Entries, IsEncodable, IsExportPlaced, IsExportedPlaced, IsItemPlaced, IsListedType, IsOwnType, IsRootType, is_lent, is_of_interface, stays_in}
 use Rattle.comp_worlds.specs.Encodable as encodable
 use Rattle.comp_worlds.specs.WorldContents.{items_of, exported_item, imported_types, world_type, interface_at, name_at}
 use Rattle.comp_worlds.specs.declared.world.ComponentWorld.{ComponentWorld}
-use Rattle.interface_needs.specs.RootNeeds.{interface_of_item, IsExportedFunction, IsExportedInterface, is_lent_type, IsUsableType, IsInterfaceScope, IsWithin}
+use Rattle.interface_needs.specs.RootNeeds.{interface_of_item, IsExportedFunction, IsExportedInterface, is_lent_type, IsUsableType, IsHomeType, IsInterfaceScope, IsWithin}
 use Rattle.interface_needs.proofs.Lending.{exported_there, live_lent, lent_from, own_lent, same_self}
 use Rattle.interface_needs.proofs.Lists.{IsImage, IsInOne, all_of_each, contains_none, contains_one, contains_flat, flat_contains, map_contains}
 use Rattle.interface_needs.proofs.Live.{live_given, live_part}
 use Rattle.interface_needs.proofs.Owners.{at_root, owner_of, owned_within, interface_of, of_other, own_or_none, resource_is, same_name}
+use Rattle.interface_needs.proofs.Reached.{ReachesType, live_from, reached_passes}
 use Rattle.interface_needs.proofs.RootTypes.{all_tests}
 use Rattle.interface_needs.proofs.Staying.{passing_holds, home_of, home_allowed, each_type}
 use Rattle.interface_needs.proofs.Tables.{lookup_contains}
@@ -248,6 +249,20 @@ module _ (w : ComponentWorld) (ok : IsEncodable w) (id : InterfaceId) where
   -- a type of which the interface may be made, where its resources are in the tables that come before that type
   pub interface_type_allowed : (s : Setting) (bound : ℕ) → IsInterfaceScope w id s bound → (t : TypeId) → IsUsableType w id t → IsWithin w.resolve.types bound t → is_allowed s (Some (Id t)) ≡ true
   interface_type_allowed s bound scope t h within = type_allowed s bound scope h.exported t h within
+
+  -- the same, where all of its resources are, whatever the type is called
+  pub interface_home_allowed : (s : Setting) → IsInterfaceScope w id s (length w.resolve.types) → (t : TypeId) → IsHomeType w id t → is_allowed s (Some (Id t)) ≡ true
+  interface_home_allowed s scope t h = home_is_allowed s (length w.resolve.types) scope h.exported (Some (Id t)) (all_within s (length w.resolve.types) scope h.exported refl (Some (Id t))) h.passes
+
+  -- a type of which one of its functions is made is such a type
+  pub function_reaches_home : IsExportedInterface w id → (e : List ℕ × Function) → Contains (functions_of w.resolve id) e → (t : TypeId) → is_live w.resolve.types (passed_types e.1) t.index ≡ true → IsHomeType w id t
+  function_reaches_home here e there t live =
+      let one : ReachesType w.resolve.types (passed_types e.1) t.index = live_from w.resolve.types (passed_types e.1) t.index live in
+      record {
+        exported = here;
+        passes = reached_passes w.resolve.types ok.sound.back (is_at_home w.resolve.types (is_lent_type w id) id) t.index one.from one.reaches
+            (function_home here e there one.from (Contains-append_right (at_most_one (resource_of e.1.kind)) (passed_types e.1) one.from one.there));
+      }
 
   none_allowed : (s : Setting) → is_allowed s None ≡ true
   unfolding is_allowed

@@ -3,6 +3,7 @@ mod Owners
 mod Tables
 mod Places
 mod Live
+mod Reached
 mod Entered
 mod Needed
 mod Near
@@ -19,3 +20,4 @@ pub mod Usable
 pub mod OwnResources
 pub mod InterfaceTypes
 pub mod OwnFunctions
+pub mod PayloadNeeds

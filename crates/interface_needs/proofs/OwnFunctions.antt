@@ -18,7 +18,7 @@ use Rattle.interface_needs.proofs.Lists.{contains_flat, contains_first}
 use Rattle.interface_needs.proofs.RootItems.{exported_there, exported_sound}
 use Rattle.interface_needs.specs.RootNeeds.{interface_of_item, IsExportedFunction}
 
-same_item : (o : Option WorldItem) → interface_of_item o ≡ option_and_then interface_in o
+pub same_item : (o : Option WorldItem) → interface_of_item o ≡ option_and_then interface_in o
 same_item (Some (items.Interface id)) = refl
 same_item (Some (items.Function f)) = refl
 same_item (Some (items.NamedType id)) = refl

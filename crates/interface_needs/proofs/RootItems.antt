@@ -23,7 +23,7 @@ use Rattle.wit_data.specs.declared.worlds.WorldKey.TheVariants as keys
 use Rattle.wit_data.specs.Keys.{is_same_key}
 use Rattle.wit_data.specs.Sound.{HasFunction}
 use Rattle.wit_data.specs.Values.{kind_at}
-use Rattle.wit_types.specs.Allowing.{is_resource, IsDefinedHere, allows_function}
+use Rattle.wit_types.specs.Allowing.{is_allowed, is_resource, IsDefinedHere, allows_function}
 use Rattle.wit_types.specs.Settings.{Setting}
 use Rattle.comp_roles.specs.CoreImports.{CoreImport, fields_of, imports_from}
 use Rattle.comp_roles.specs.declared.imports.Import.{Import}
@@ -41,13 +41,13 @@ use Rattle.comp_links.proofs.Groups.{grouped_imports, groups_right}
 use Rattle.comp_worlds.specs.Worlds.{IsImportGroup, IsImportRole, IsResource}
 use Rattle.comp_worlds.specs.declared.world.ComponentWorld.{ComponentWorld}
 use Rattle.interface_needs.specs.Needs.{IsImported}
-use Rattle.interface_needs.specs.RootNeeds.{IsRootScope, HasWorldTypes, IsUsedFunction, interface_of_item, IsExportedFunction, IsWorldType, IsDropKnown}
+use Rattle.interface_needs.specs.RootNeeds.{IsRootScope, HasWorldTypes, IsUsedFunction, interface_of_item, IsExportedFunction, IsUsedType, IsWorldType, IsDropKnown}
 use Rattle.interface_needs.proofs.Lists.{IsInOne, IsImage, flat_contains, map_contains, contains_flat, contains_first}
 use Rattle.interface_needs.proofs.Live.{live_given}
 use Rattle.interface_needs.proofs.Needed.{used_in, is_needed}
 use Rattle.interface_needs.proofs.Near.{IsNear, near_function}
 use Rattle.interface_needs.proofs.Places.{before_imported, place_named, place_owned}
-use Rattle.interface_needs.proofs.RootTypes.{type_defined, function_allowed}
+use Rattle.interface_needs.proofs.RootTypes.{type_defined, near_allowed, function_allowed}
 use Rattle.interface_needs.proofs.Sound.{function_sound, import_sound, export_sound}
 use Rattle.interface_needs.proofs.Tables.{lookup_contains}
 use Rattle.interface_needs.proofs.Uses.{role_used, root_function_used}
@@ -67,7 +67,7 @@ function_there entries f (Some item) test found h =
     let there = lookup_contains test entries item found in record { key = there.0; there = subst (λ i. Contains entries (there.0, i)) (function_is item f h) there.1 }
 
 -- an item of the world's exports, and one of its imports, uses its types
-export_used : (w : ComponentWorld) (e : WorldKey × WorldItem) (t : Ty) → Contains (items_of w).exports e → Contains (export_types w.resolve e.1) t → Contains (used_in w) t
+pub export_used : (w : ComponentWorld) (e : WorldKey × WorldItem) (t : Ty) → Contains (items_of w).exports e → Contains (export_types w.resolve e.1) t → Contains (used_in w) t
 export_used w e t c d =
     let world = items_of w in
     let roles : List Ty = flat_map (λ i. role_types w.resolve world.imports i.role) (all_imports w.main w.adapters) in
@@ -120,7 +120,7 @@ module _ (w : ComponentWorld) (ok : IsEncodable w) (f : Function) where
       by (items.NamedType t) c k = absurd (none-some f k)
 
   -- those of one at the root are in place
-  exported_placed : IsOfExport w None f → IsFunctionPlaced w.resolve (items_of w).imports (length (items_of w).imports) f
+  pub exported_placed : IsOfExport w None f → IsFunctionPlaced w.resolve (items_of w).imports (length (items_of w).imports) f
   exported_placed e = by e.item (AllByRecursion-contains (λ e. IsExportPlaced w.resolve (items_of w) e.1) (items_of w).exports (e.key, e.item) ok.exports e.there) e.of e.in_interface
     where
       es : List (WorldKey × WorldItem)
@@ -132,7 +132,7 @@ module _ (w : ComponentWorld) (ok : IsEncodable w) (f : Function) where
       by (items.NamedType t) h k i = absurd (none-some f k)
 
   -- and they are types of the item
-  exported_types : (e : IsOfExport w None f) (t : Ty) → Contains (function_types f) t → Contains (export_types w.resolve e.item) t
+  pub exported_types : (e : IsOfExport w None f) (t : Ty) → Contains (function_types f) t → Contains (export_types w.resolve e.item) t
   exported_types e t c = by e.item e.of e.in_interface
     where
       by : (item : WorldItem) → function_of_item w.resolve e.name (Some item) ≡ Some f → interface_of_item (Some item) ≡ None → Contains (export_types w.resolve item) t
@@ -191,6 +191,11 @@ module _ (w : ComponentWorld) (ok : IsEncodable w) where
     exported_allowed world f h =
         let e = exported_there w h in
         function_allowed w ok s root world f (near_function w ok (length (items_of w).imports) f (exported_sound w ok f e) (exported_placed w ok f e) (λ t c. export_used w (e.key, e.item) t e.there (exported_types w ok f e t c)))
+
+    -- the types that a component uses
+    pub used_type_allowed : HasWorldTypes w s (length w.resolve.types) → (t : TypeId) → t.index < length w.resolve.types → IsUsedType w t → is_allowed s (Some (Id t)) ≡ true
+    used_type_allowed world t within h =
+        let near : IsNear w (length (items_of w).imports) t.index = record { live = h.live; placed = h.placed } in near_allowed w ok s root world t.index within near
 
     -- the types that the world imports
     pub world_type_defined : (id : TypeId) → HasWorldTypes w s id.index → IsWorldType w id → is_resource (kind_at w.resolve.types id.index) ≡ false → IsDefinedHere s (kind_at w.resolve.types id.index)

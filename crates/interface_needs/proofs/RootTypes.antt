@@ -117,6 +117,10 @@ module _ (w : ComponentWorld) (ok : IsEncodable w) (s : Setting) (root : IsRootS
     allowed = all_tests (is_allowed s) (parts (kind_at types n)) (parts_allowed n world n l h (λ j i k. allowed n world n j i i (omega (arith, l, i)) k));
   }
 
+  -- so may a live type be
+  pub near_allowed : HasWorldTypes w s (length w.resolve.types) → (n : ℕ) → n < length w.resolve.types → IsNear w (length (items_of w).imports) n → is_allowed s (Some (Id (record { index = n }))) ≡ true
+  near_allowed world n l h = allowed (length types) world (length types) n l l l h
+
   -- a function whose types are live
   pub function_allowed : HasWorldTypes w s (length w.resolve.types) → (f : Function) → IsNearFunction w (length (items_of w).imports) f → allows_function s f ≡ true
   function_allowed world f h =

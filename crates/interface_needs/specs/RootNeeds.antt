@@ -10,6 +10,7 @@ use Rattle.wit_data.specs.declared.worlds.WorldItem.TheVariants as items
 use Rattle.wit_data.specs.declared.worlds.WorldKey.{WorldKey}
 use Rattle.wit_data.specs.declared.worlds.WorldKey.TheVariants as keys
 use Rattle.wit_data.specs.declared.types.TypeDef.{TypeDef}
+use Rattle.wit_data.specs.Live.{is_live}
 use Rattle.wit_data.specs.Values.{kind_at, value}
 use Rattle.wit_types.specs.Allowing.{is_resource}
 use Rattle.wit_types.specs.Settings.{Setting}
@@ -17,9 +18,13 @@ use Rattle.type_scopes.specs.Needs.{each_passes, is_at_home}
 use Rattle.type_scopes.specs.Titles.{is_one_of}
 use Rattle.std.specs.List.{list_any}
 use Rattle.world_values.specs.Items.{root_function_at}
-use Rattle.world_values.specs.Mentions.{interfaces_of, same_interface}
+use Rattle.comp_roles.specs.declared.payloads.PayloadType.{PayloadType}
+use Rattle.comp_roles.specs.declared.payloads.PayloadType.TheVariants as payloads
+use Rattle.world_values.specs.Mentions.{interfaces_of, same_interface, used_types}
 use Rattle.comp_worlds.specs.Encodable.{place}
 use Rattle.comp_worlds.specs.ExportOrder.{used_exports}
+use Rattle.comp_worlds.specs.Payloads.{IsPayloadType}
+use Rattle.comp_worlds.specs.Uses.{all_imports}
 use Rattle.comp_worlds.specs.WorldContents.{items_of, exported_item, function_exported, imported_types, interface_at, name_at}
 use Rattle.comp_worlds.specs.Worlds.{IsResource}
 use Rattle.comp_worlds.specs.declared.world.ComponentWorld.{ComponentWorld}
@@ -82,6 +87,26 @@ pub record IsUsableType (w : ComponentWorld) (interface : InterfaceId) (t : Type
   pub within : t.index < length w.resolve.types
   pub named : IsSome (name_at w.resolve.types t.index)
   pub passes : value (each_passes (is_at_home w.resolve.types (is_lent_type w interface) interface)) w.resolve.types (Some (Id t)) ≡ true
+
+-- a type of which this exported interface may be made, whether it has a name or not
+pub record IsHomeType (w : ComponentWorld) (interface : InterfaceId) (t : TypeId) : Type 0 where
+  pub exported : IsExportedInterface w interface
+  pub passes : value (each_passes (is_at_home w.resolve.types (is_lent_type w interface) interface)) w.resolve.types (Some (Id t)) ≡ true
+
+-- a type that a component uses, made of types of imported interfaces and of the root
+pub record IsUsedType (w : ComponentWorld) (t : TypeId) : Type 0 where
+  pub live : is_live w.resolve.types (used_types (all_imports w.main w.adapters) w.resolve (items_of w)) t.index ≡ true
+  pub placed : place w.resolve.types (items_of w).imports (Some (Id t)) ≤ length (items_of w).imports
+
+-- a type that may be defined at the root, for this exported interface, or, where it is none, for the root itself
+abbrev pub IsTypeFor : ComponentWorld → Option InterfaceId → TypeId → Type 0
+IsTypeFor w (Some interface) t = IsHomeType w interface t
+IsTypeFor w None t = IsUsedType w t
+
+-- a stream or a future whose type may be
+abbrev pub IsPayloadFor : ComponentWorld → Option InterfaceId → PayloadType → Type 0
+IsPayloadFor w interface (payloads.Typed id name) = IsPayloadType w.resolve.types id × IsTypeFor w interface id
+IsPayloadFor w interface unit = Unit {0}
 
 -- The scope of an exported interface, in which every type may be defined, each type imported that
 -- an imported interface needs, and each named type of an exported interface used that the interface

@@ -4,6 +4,7 @@ use Rattle.std.proofs.lemmas.Option.{none-some, same_Some}
 use Rattle.std.specs.List.{slice_get, flat_map, list_any, AllByRecursion}
 use Rattle.built_ins.proofs.Typed.{unusable}
 use Rattle.built_ins.specs.BuiltIns.{plain_intrinsic, plain_import_type}
+use Rattle.built_ins.specs.Payloads.{PayloadCall, named_call}
 use Rattle.comp_bytes.specs.declared.canon.Intrinsic.{Intrinsic}
 use Rattle.comp_lists.proofs.Lists.{AllByRecursion-weaker, AllByRecursion-front, AllByRecursion-back, AllByRecursion-contains}
 use Rattle.core_runs.specs.Cells.{getter_type, setter_type}
@@ -20,7 +21,7 @@ use Rattle.comp_worlds.specs.Uses.{all_imports}
 use Rattle.comp_worlds.specs.Worlds.{IsWorld, IsImportRole, IsImportGroup}
 use Rattle.comp_worlds.specs.declared.world.ComponentWorld.{ComponentWorld}
 use Rattle.comp_links.proofs.Groups.{groups_right, grouped_imports}
-use Rattle.comp_links.specs.Links.{link_of_cell, link_of_intrinsic, link_of}
+use Rattle.comp_links.specs.Links.{link_of_cell, link_of_intrinsic, link_of_payload, link_of}
 use Rattle.comp_links.specs.Modules.{WorldModule, user_modules, import_groups}
 use Rattle.comp_links.specs.Targets.{UserModule, Target, TlsGet, TlsSet, Unlinked}
 use Rattle.shim_runs.specs.ShimRuns.{IsOfAddresses}
@@ -173,6 +174,11 @@ needs_by w (imports.TlsBaseSet type) None h = h type refl refl
 needs_by w role None h = tt
 needs_by w role (Some i) h = tt
 
+-- a function of a stream or a future needs none
+payload_needs : (w : ComponentWorld) (role : Import) (o : Option PayloadCall) → NeedsCell w (link_of_intrinsic role (plain_intrinsic w.can_use_context_slot_1 role)) → NeedsCell w (link_of_payload w role o)
+payload_needs w role (Some c) plain = tt
+payload_needs w role None plain = plain
+
 pub cell_needed : (w : ComponentWorld) (of : UserModule) (role : Import) → IsImportRole w role → IsAgreed w role → NeedsCell w (link_of w of role)
 cell_needed w of role right agreed = by role right agreed
   where
@@ -191,11 +197,15 @@ cell_needed w of role right agreed = by role right agreed
     by imports.WaitableSetPoll right agreed = tt
     by (imports.ErrorContextNew encoding) right agreed = tt
     by (imports.ErrorContextDebugMessage encoding) right agreed = tt
+    by (imports.StreamRead p is_async) right agreed = tt
+    by (imports.StreamWrite p is_async) right agreed = tt
+    by (imports.FutureRead p is_async) right agreed = tt
+    by (imports.FutureWrite p is_async) right agreed = tt
     by (imports.MainModuleMemory type) right agreed = tt
     by (imports.MainModuleExport name kind) right agreed = tt
     by (imports.AdapterExport adapter name function) right agreed = tt
     by (imports.Item item) right agreed = tt
-    by role right agreed = own role right agreed
+    by role right agreed = payload_needs w role (named_call role) (own role right agreed)
 
 -- no other import is given a function of the cell
 pub no_cell : (role : Import) → base_of_role role ≡ None → link_of_cell role ≡ Unlinked

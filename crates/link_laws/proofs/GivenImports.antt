@@ -1,5 +1,5 @@
 -- What the arguments of a user module's instantiation are, and what its imports find among them.
-use Rattle.std.proofs.Common.{◌≡◌, ◌∙◌, inl, inr, ℕ, List, [], ◌∷◌, map, refl, sym, ap, subst, Option, Some, None, true, false, true≢false, is_some, IsSome, IsTrue, Contains}
+use Rattle.std.proofs.Common.{◌≡◌, ◌∙◌, inl, inr, ℕ, Bool, List, [], ◌∷◌, map, refl, sym, ap, subst, Option, Some, None, true, false, true≢false, is_some, IsSome, IsTrue, Contains}
 use Rattle.standard_kinds.specs.declared.kinds.StringEncoding.{StringEncoding}
 use Rattle.std.proofs.lemmas.Option.{same_Some, none-some}
 use Rattle.std.specs.List.{AllZip, AllByRecursion}
@@ -8,6 +8,7 @@ use Rattle.comp_lists.specs.Found.{found}
 use Rattle.comp_lists.proofs.Lists.{AllZip-weaker}
 use Rattle.built_ins.proofs.Typed.{usable_too, plain_typed}
 use Rattle.built_ins.specs.BuiltIns.{plain_intrinsic, plain_type, plain_import_type}
+use Rattle.built_ins.specs.Payloads.{PayloadCall, named_call, payload_signature, is_access}
 use Rattle.comp_bytes.specs.Spaces.{kind_space}
 use Rattle.comp_bytes.specs.declared.canon.Intrinsic.{Intrinsic}
 use Rattle.comp_bytes.specs.declared.canon.Intrinsic.TheVariants as intrinsics
@@ -39,11 +40,14 @@ use Rattle.comp_worlds.proofs.Matched.{matched_function}
 use Rattle.comp_options.specs.Options.{import_set}
 use Rattle.comp_worlds.specs.Bases.{base_of_role}
 use Rattle.comp_worlds.specs.Lowerings.{IsImportForm}
-use Rattle.comp_worlds.specs.Typed.{drop_type, handle_type, wait_type, message_type, type_of_import, FitsRole, FitsInstance}
+use Rattle.comp_worlds.specs.Typed.{drop_type, handle_type, wait_type, message_type, type_of_built_in, type_of_import, FitsRole, FitsInstance}
 use Rattle.comp_worlds.specs.WorldContents.{function_exported, items_of}
 use Rattle.comp_worlds.specs.Worlds.{IsWorld, IsImportRole, IsImportGroup}
 use Rattle.comp_roles.specs.declared.imports.Import.{Import}
 use Rattle.comp_roles.specs.declared.imports.Import.TheVariants as imports
+use Rattle.comp_roles.specs.declared.payloads.PayloadFuncKind.{PayloadFuncKind}
+use Rattle.comp_roles.specs.declared.payloads.PayloadFuncKind.TheVariants as ends
+use Rattle.comp_roles.specs.declared.payloads.PayloadInfo.{PayloadInfo}
 use Rattle.comp_roles.specs.declared.imports.ImportInstance.{ImportInstance}
 use Rattle.comp_roles.specs.declared.imports.ImportInstance.TheVariants as instances
 use Rattle.comp_roles.specs.declared.libraries.MainOrAdapter.{MainOrAdapter}
@@ -53,16 +57,16 @@ use Rattle.comp_runs.specs.Store.{Thing, Export, CoreItem, Lowering, IntrinsicOf
 use Rattle.comp_roles.specs.declared.offered.ExternType.{ExternType}
 use Rattle.comp_roles.specs.declared.offered.ExternType.TheVariants as externs
 use Rattle.comp_roles.specs.declared.offered.ImportType.{ImportType}
-use Rattle.comp_links.specs.Targets.{UserModule, Main, Adapter, ExportRef, WorldFunction, TargetOption, Target, OfRoot, OfInterface, Lowered, BuiltIn, Operand, NoType, operand_if_any, operand_tree, ResourceFunction, New, Rep, Drop, ExportOf, Unlinked}
+use Rattle.comp_links.specs.Targets.{UserModule, Main, Adapter, ExportRef, WorldFunction, TargetOption, Target, OfRoot, OfInterface, Lowered, BuiltIn, Operand, NoType, operand_if_any, payload_operand, operand_tree, ResourceFunction, New, Rep, Drop, ExportOf, Unlinked}
 use Rattle.comp_links.specs.Modules.{WorldModule, user_modules, IsModule, function_imported}
 use Rattle.comp_links.specs.Roles.{import_encoding}
 use Rattle.comp_links.specs.Lists.{resource_of}
-use Rattle.comp_links.specs.Links.{options_in, lower_realloc, lower_options, link_of_intrinsic, link_of, link_in, link_at, module_of, task_return, set_wait, set_poll, error_new, error_message}
+use Rattle.comp_links.specs.Links.{options_in, lower_realloc, lower_options, link_of_intrinsic, link_of_payload, link_of, link_in, link_at, module_of, task_return, set_wait, set_poll, error_new, error_message, stream_read, stream_write, future_read, future_write}
 use Rattle.shim_plan.specs.declared.kinds.ShimKind.{ShimKind}
 use Rattle.shim_plan.specs.declared.kinds.ShimKind.TheVariants as shim_kinds
 use Rattle.shim_plan.specs.declared.shims.Shim.{Shim}
 use Rattle.world_shims.specs.WorldShims.{type_of_shim}
-use Rattle.comp_terms.specs.Generated.{interface_imported, export_key, returning_at, role_of_kind, export_of_kind, IsShimOf, Purpose, OfImport, OfExport, target_of, HasPurpose}
+use Rattle.comp_terms.specs.Generated.{interface_imported, export_key, returning_at, role_of_kind, export_of_kind, IsShimOf, Purpose, OfImport, OfExport, target_of, HasPurpose, access_role}
 use Rattle.comp_terms.specs.Terms.{intrinsic_of}
 use Rattle.comp_terms.specs.Shimmed.{has_shim, has_shim_in, has_shim_at}
 use Rattle.comp_terms.specs.Planned.{type_of_function, IsItemFor, IsShimFor, IsOwnShim, IsGivenFor, IsEntryFor, IsArgumentFor}
@@ -70,7 +74,7 @@ use Rattle.comp_runs.specs.Machine.{Scope, Machine, address_at, all_some, export
 use Rattle.comp_runs.specs.Instances.{given_to, type_space}
 use Rattle.comp_runs.specs.Signatures.{form_of, core_signature, intrinsic_signature, returned}
 use Rattle.comp_runs.specs.Running.{core_argument}
-use Rattle.link_laws.proofs.BuiltIns.{plain_signature}
+use Rattle.link_laws.proofs.BuiltIns.{plain_signature, payload_core, may_have_shim, plain_has_none, payload_has_none}
 use Rattle.link_laws.proofs.Zips.{all_some-zip, found-zip, mapped_some}
 use Rattle.comp_worlds.proofs.Roles.{bound_some}
 use Rattle.link_laws.proofs.BaseRoles.{IsAgreed, IsAgreedGroup, NeedsCell, getter_fits, setter_fits, cell_of_role, cell_needed, no_cell}
@@ -105,6 +109,26 @@ built_in_opaque : (w : ComponentWorld) (s : Store) (address : ℕ) (role : Impor
 built_in_opaque w s address role None usable type none same fits h = let no : IsServedAs w s address Unlinked = subst (IsServedAs w s address) (no_cell role none) h in absurd no
 built_in_opaque w s address role (Some i) usable type none same fits h = intrinsic_opaque w s address i usable type (same i refl) fits h
 
+-- so is a function of a stream or a future
+payload_opaque : (w : ComponentWorld) (s : Store) (address : ℕ) (role : Import) (c : PayloadCall) → named_call role ≡ Some c → (type : FuncType) → (options : List TargetOption) → Some (externs.Func (payload_signature c.intrinsic)) ≡ Some (externs.Func type) →
+    IsBuiltInAt w s address c.intrinsic (operand_tree (resource_of w) w.resolve.types (payload_operand c.info.ty)) options → (item : CoreItem) × IsOpaqueOf s address type item
+payload_opaque w s address role c is type options fits h =
+    let tree : Option Tree = operand_tree (resource_of w) w.resolve.types (payload_operand c.info.ty) in
+    let typed : externs.Func (intrinsic_signature c.intrinsic tree) ≡ externs.Func type = ap externs.Func (payload_core tree role c is) ∙ same_Some (externs.Func (payload_signature c.intrinsic)) (externs.Func type) fits in
+    (IntrinsicOf c.intrinsic tree h.held, subst (λ t. IsOpaqueOf s address t (IntrinsicOf c.intrinsic tree h.held)) (ap (function_type_in type) typed) h.is)
+
+-- or another built-in function
+typed_opaque : (w : ComponentWorld) (s : Store) (address : ℕ) (role : Import) (o : Option PayloadCall) → named_call role ≡ o → (type : FuncType) → base_of_role role ≡ None → type_of_built_in role o ≡ Some (externs.Func type) → IsServedAs w s address (link_of_payload w role o) →
+    (item : CoreItem) × IsOpaqueOf s address type item
+typed_opaque w s address role (Some c) is type none fits h = payload_opaque w s address role c is type [] fits h
+typed_opaque w s address role None is type none fits h = built_in_opaque w s address role (plain_intrinsic w.can_use_context_slot_1 role) (plain_intrinsic true role) type none (usable_too w.can_use_context_slot_1 role) fits h
+
+-- the core type of a built-in function
+built_in_core : (role : Import) (o : Option PayloadCall) (type : ExternType) → type_of_built_in role o ≡ Some type → (t : FuncType) × (externs.Func t ≡ type)
+built_in_core role (Some c) type fits = (payload_signature c.intrinsic, same_Some (externs.Func (payload_signature c.intrinsic)) type fits)
+built_in_core role None type fits =
+    let x : (t : FuncType) × (plain_import_type role ≡ Some t) × (externs.Func t ≡ type) = mapped_some externs.Func (plain_import_type role) type fits in (x.0, x.2)
+
 -- neither it nor a function of the cell is a table, a memory or a global
 no_table : (w : ComponentWorld) (s : Store) (address : ℕ) (role : Import) (o : Option Intrinsic) → IsServedIn w s spaces.CoreTable address (link_of_intrinsic role o) → ⊥
 no_table w s address (imports.TlsBaseGet type) None h = h
@@ -124,12 +148,28 @@ no_global w s address (imports.TlsBaseSet type) None h = h
 no_global w s address role None h = h
 no_global w s address role (Some i) h = h
 
+typed_no_table : (w : ComponentWorld) (s : Store) (address : ℕ) (role : Import) (o : Option PayloadCall) → IsServedIn w s spaces.CoreTable address (link_of_payload w role o) → ⊥
+typed_no_table w s address role (Some c) h = h
+typed_no_table w s address role None h = no_table w s address role (plain_intrinsic w.can_use_context_slot_1 role) h
+
+typed_no_memory : (w : ComponentWorld) (s : Store) (address : ℕ) (role : Import) (o : Option PayloadCall) → IsServedIn w s spaces.CoreMemory address (link_of_payload w role o) → ⊥
+typed_no_memory w s address role (Some c) h = h
+typed_no_memory w s address role None h = no_memory w s address role (plain_intrinsic w.can_use_context_slot_1 role) h
+
+typed_no_global : (w : ComponentWorld) (s : Store) (address : ℕ) (role : Import) (o : Option PayloadCall) → IsServedIn w s spaces.CoreGlobal address (link_of_payload w role o) → ⊥
+typed_no_global w s address role (Some c) h = h
+typed_no_global w s address role None h = no_global w s address role (plain_intrinsic w.can_use_context_slot_1 role) h
+
 -- it is no lowering
 not_lowered : (role : Import) (o : Option Intrinsic) (function : WorldFunction) (options : List TargetOption) → link_of_intrinsic role o ≡ Lowered function options → ⊥
 not_lowered (imports.TlsBaseGet type) None function options is = cc
 not_lowered (imports.TlsBaseSet type) None function options is = cc
 not_lowered role None function options is = cc
 not_lowered role (Some i) function options is = cc
+
+typed_not_lowered : (w : ComponentWorld) (role : Import) (o : Option PayloadCall) (function : WorldFunction) (options : List TargetOption) → link_of_payload w role o ≡ Lowered function options → ⊥
+typed_not_lowered w role (Some c) function options is = cc
+typed_not_lowered w role None function options is = not_lowered role (plain_intrinsic w.can_use_context_slot_1 role) function options is
 
 -- a lowering of a function that is called in a form is opaque, and has the core type of such calls
 called_opaque : (w : ComponentWorld) (s : Store) (address : ℕ) (function : WorldFunction) (abi : AbiVariant) → IsImportForm abi → (type : FuncType) (realloc : Option ExportRef) (encoding : Option StringEncoding) →
@@ -186,7 +226,18 @@ IsThrough imports.WaitableSetWait = Unit {0}
 IsThrough imports.WaitableSetPoll = Unit {0}
 IsThrough (imports.ErrorContextNew encoding) = Unit {0}
 IsThrough (imports.ErrorContextDebugMessage encoding) = Unit {0}
+IsThrough (imports.StreamRead p is_async) = Unit {0}
+IsThrough (imports.StreamWrite p is_async) = Unit {0}
+IsThrough (imports.FutureRead p is_async) = Unit {0}
+IsThrough (imports.FutureWrite p is_async) = Unit {0}
 IsThrough role = ⊥
+
+-- a read or a write has one
+access_through : (p : PayloadInfo) (kind : PayloadFuncKind) (is_async : Bool) → IsThrough (access_role p kind is_async)
+access_through p ends.FutureRead is_async = tt
+access_through p ends.FutureWrite is_async = tt
+access_through p ends.StreamRead is_async = tt
+access_through p ends.StreamWrite is_async = tt
 
 -- a shim stands for these alone, as an import
 shim_through : (w : ComponentWorld) (shim : Shim) (from : UserModule) (other : Import) → IsShimOf w shim from other → IsThrough other
@@ -213,10 +264,11 @@ shim_through w shim from other h = by shim.kind h.of_kind
     by shim_kinds.WaitableSetPoll k = subst IsThrough (ap (λ (x : UserModule × Import). x.1) (same_Some (Main, imports.WaitableSetPoll) (from, other) k)) tt
     by (shim_kinds.ErrorContextNew encoding) k = subst IsThrough (ap (λ (x : UserModule × Import). x.1) (same_Some (Main, imports.ErrorContextNew encoding) (from, other) k)) tt
     by (shim_kinds.ErrorContextDebugMessage which encoding) k = subst IsThrough (ap (λ (x : UserModule × Import). x.1) (same_Some (module_of which, imports.ErrorContextDebugMessage encoding) (from, other) k)) tt
+    by (shim_kinds.PayloadFunc which p kind is_async) k = subst IsThrough (ap (λ (x : UserModule × Import). x.1) (same_Some (module_of which, access_role p kind is_async) (from, other) k)) (access_through p kind is_async)
     by kind k = absurd (none-some (from, other) k)
 
 -- a call is lowered, and a function with options is the built-in function
-through_target : (P : Target → Type 0) → ((function : WorldFunction) (options : List TargetOption) → P (Lowered function options)) → ((name : Intrinsic) → plain_type name ≡ None → (operand : Operand) (options : List TargetOption) → P (BuiltIn name operand options)) →
+through_target : (P : Target → Type 0) → ((function : WorldFunction) (options : List TargetOption) → P (Lowered function options)) → ((name : Intrinsic) → may_have_shim name ≡ true → (operand : Operand) (options : List TargetOption) → P (BuiltIn name operand options)) →
     (w : ComponentWorld) (from : UserModule) (other : Import) → IsThrough other → P (link_of w from other)
 through_target P of_lowered of_built_in w from (imports.WorldFunc (keys.Name text) function abi) h = of_lowered (OfRoot text) (lower_options w from (imports.WorldFunc (keys.Name text) function abi))
 through_target P of_lowered of_built_in w from (imports.InterfaceFunc key id function abi) h = of_lowered (OfInterface id function) (lower_options w from (imports.InterfaceFunc key id function abi))
@@ -225,6 +277,10 @@ through_target P of_lowered of_built_in w from imports.WaitableSetWait h = of_bu
 through_target P of_lowered of_built_in w from imports.WaitableSetPoll h = of_built_in set_poll refl NoType (lower_options w from imports.WaitableSetPoll)
 through_target P of_lowered of_built_in w from (imports.ErrorContextNew encoding) h = of_built_in error_new refl NoType (lower_options w from (imports.ErrorContextNew encoding))
 through_target P of_lowered of_built_in w from (imports.ErrorContextDebugMessage encoding) h = of_built_in error_message refl NoType (lower_options w from (imports.ErrorContextDebugMessage encoding))
+through_target P of_lowered of_built_in w from (imports.StreamRead p is_async) h = of_built_in stream_read refl (payload_operand p.ty) (lower_options w from (imports.StreamRead p is_async))
+through_target P of_lowered of_built_in w from (imports.StreamWrite p is_async) h = of_built_in stream_write refl (payload_operand p.ty) (lower_options w from (imports.StreamWrite p is_async))
+through_target P of_lowered of_built_in w from (imports.FutureRead p is_async) h = of_built_in future_read refl (payload_operand p.ty) (lower_options w from (imports.FutureRead p is_async))
+through_target P of_lowered of_built_in w from (imports.FutureWrite p is_async) h = of_built_in future_write refl (payload_operand p.ty) (lower_options w from (imports.FutureWrite p is_async))
 through_target P of_lowered of_built_in w from other h = absurd h
 
 -- and has no base
@@ -236,10 +292,14 @@ through_no_base imports.WaitableSetWait h = refl
 through_no_base imports.WaitableSetPoll h = refl
 through_no_base (imports.ErrorContextNew encoding) h = refl
 through_no_base (imports.ErrorContextDebugMessage encoding) h = refl
+through_no_base (imports.StreamRead p is_async) h = refl
+through_no_base (imports.StreamWrite p is_async) h = refl
+through_no_base (imports.FutureRead p is_async) h = refl
+through_no_base (imports.FutureWrite p is_async) h = refl
 through_no_base role h = absurd h
 
 -- so a shim stands for a lowering, for a built-in function, or for an export
-pub of_purpose : (P : Target → Type 0) → ((function : WorldFunction) (options : List TargetOption) → P (Lowered function options)) → ((name : Intrinsic) → plain_type name ≡ None → (operand : Operand) (options : List TargetOption) → P (BuiltIn name operand options)) → ((e : ExportRef) → P (ExportOf e)) →
+pub of_purpose : (P : Target → Type 0) → ((function : WorldFunction) (options : List TargetOption) → P (Lowered function options)) → ((name : Intrinsic) → may_have_shim name ≡ true → (operand : Operand) (options : List TargetOption) → P (BuiltIn name operand options)) → ((e : ExportRef) → P (ExportOf e)) →
     (w : ComponentWorld) (shim : Shim) (p : Purpose) → HasPurpose w shim p → P (target_of w p)
 of_purpose P of_lowered of_built_in of_export w shim (OfImport of role) stands = through_target P of_lowered of_built_in w of role (shim_through w shim of role stands)
 of_purpose P of_lowered of_built_in of_export w shim (OfExport e) stands = of_export e
@@ -267,6 +327,14 @@ module _ (w : ComponentWorld) (ok : IsWorld w) (s : Store) (of : UserModule) whe
   served_opaque address imports.WaitableSetPoll type right none fits h = memory_opaque w s address set_poll (lower_options w of imports.WaitableSetPoll) type fits h
   served_opaque address (imports.ErrorContextNew encoding) type right none fits h = memory_opaque w s address error_new (lower_options w of (imports.ErrorContextNew encoding)) type fits h
   served_opaque address (imports.ErrorContextDebugMessage encoding) type right none fits h = memory_opaque w s address error_message (lower_options w of (imports.ErrorContextDebugMessage encoding)) type fits h
+  served_opaque address (imports.StreamRead p is_async) type right none fits h =
+      payload_opaque w s address (imports.StreamRead p is_async) (record { intrinsic = stream_read; info = p }) refl type (lower_options w of (imports.StreamRead p is_async)) fits h
+  served_opaque address (imports.StreamWrite p is_async) type right none fits h =
+      payload_opaque w s address (imports.StreamWrite p is_async) (record { intrinsic = stream_write; info = p }) refl type (lower_options w of (imports.StreamWrite p is_async)) fits h
+  served_opaque address (imports.FutureRead p is_async) type right none fits h =
+      payload_opaque w s address (imports.FutureRead p is_async) (record { intrinsic = future_read; info = p }) refl type (lower_options w of (imports.FutureRead p is_async)) fits h
+  served_opaque address (imports.FutureWrite p is_async) type right none fits h =
+      payload_opaque w s address (imports.FutureWrite p is_async) (record { intrinsic = future_write; info = p }) refl type (lower_options w of (imports.FutureWrite p is_async)) fits h
   served_opaque address (imports.MainModuleMemory memory) type right none fits h = absurd h
   served_opaque address (imports.MainModuleExport name kind) type right none fits h = absurd (none-some (externs.Func type) fits)
   served_opaque address (imports.Item item) type right none fits h = absurd (none-some (externs.Func type) fits)
@@ -278,7 +346,7 @@ module _ (w : ComponentWorld) (ok : IsWorld w) (s : Store) (of : UserModule) whe
       let typed : externs.Func type ≡ externs.Func h.type = matched_function (externs.Func type) h.type matching in
       (ExportedBy h.user name, subst (λ t. IsOpaqueOf s address t (ExportedBy h.user name)) (ap (function_type_in type) (sym typed)) h.is)
   served_opaque address (imports.WorldFunc (keys.Interface other) function abi) type right none fits h = absurd (true≢false (sym right))
-  served_opaque address role type right none fits h = built_in_opaque w s address role (plain_intrinsic w.can_use_context_slot_1 role) (plain_intrinsic true role) type none (usable_too w.can_use_context_slot_1 role) fits h
+  served_opaque address role type right none fits h = typed_opaque w s address role (named_call role) refl type none fits h
 
 -- what serves a role matches an import that fits the role
 module _ (w : ComponentWorld) (ok : IsWorld w) (s : Store) (globals : List ValType) (typed : AllByRecursion (HasGlobals w globals) s.module_instances) (of : UserModule) where
@@ -366,9 +434,9 @@ module _ (w : ComponentWorld) (ok : IsWorld w) (s : Store) (globals : List ValTy
       export_typed w ok s globals typed space address e type (λ m listed same t offered. offered_matches w ok of (imports.AdapterExport adapter name function) e right refl m listed same t offered type fits) h
   role_typed space address (imports.WorldFunc (keys.Interface other) function abi) type right agreed fits h = absurd (true≢false (sym right))
   role_typed space address role type right agreed fits h =
-      let core : (t : FuncType) × (plain_import_type role ≡ Some t) × (externs.Func t ≡ type) = mapped_some externs.Func (plain_import_type role) type fits in
-      subst (HasType s globals space address) core.2
-      (function_typed space address role core.0 right agreed (fits ∙ ap (λ (t : ExternType). Some t) (sym core.2)) (no_table w s address role (plain_intrinsic w.can_use_context_slot_1 role)) (no_memory w s address role (plain_intrinsic w.can_use_context_slot_1 role)) (no_global w s address role (plain_intrinsic w.can_use_context_slot_1 role)) h)
+      let core : (t : FuncType) × (externs.Func t ≡ type) = built_in_core role (named_call role) type fits in
+      subst (HasType s globals space address) core.1
+      (function_typed space address role core.0 right agreed (fits ∙ ap (λ (t : ExternType). Some t) (sym core.1)) (typed_no_table w s address role (named_call role)) (typed_no_memory w s address role (named_call role)) (typed_no_global w s address role (named_call role)) h)
 
 -- what a shim hands on to is opaque, and has the shim's core type
 pub purpose_opaque : (w : ComponentWorld) → IsWorld w → (s : Store) (address : ℕ) (shim : Shim) (p : Purpose) → HasPurpose w shim p → IsServedAs w s address (target_of w p) → (item : CoreItem) × IsOpaqueOf s address (type_of_shim shim) item
@@ -404,6 +472,10 @@ lowered_through w of imports.WaitableSetWait right f options is = tt
 lowered_through w of imports.WaitableSetPoll right f options is = tt
 lowered_through w of (imports.ErrorContextNew encoding) right f options is = tt
 lowered_through w of (imports.ErrorContextDebugMessage encoding) right f options is = tt
+lowered_through w of (imports.StreamRead p is_async) right f options is = tt
+lowered_through w of (imports.StreamWrite p is_async) right f options is = tt
+lowered_through w of (imports.FutureRead p is_async) right f options is = tt
+lowered_through w of (imports.FutureWrite p is_async) right f options is = tt
 lowered_through w of (imports.ImportedResourceDrop key interface id) right f options is = cc
 lowered_through w of (imports.ExportedResourceDrop key id) right f options is = cc
 lowered_through w of (imports.ExportedResourceRep key id) right f options is = cc
@@ -412,22 +484,27 @@ lowered_through w of (imports.MainModuleMemory memory) right f options is = cc
 lowered_through w of (imports.MainModuleExport name kind) right f options is = cc
 lowered_through w of (imports.AdapterExport adapter name function) right f options is = cc
 lowered_through w of (imports.Item item) right f options is = cc
-lowered_through w of role right f options is = absurd (not_lowered role (plain_intrinsic w.can_use_context_slot_1 role) f options is)
+lowered_through w of role right f options is = absurd (typed_not_lowered w role (named_call role) f options is)
 
 -- no built-in function without operands has options
 abbrev name_in : Target → Intrinsic
 name_in (BuiltIn name operand options) = name
 name_in target = intrinsics.TaskCancel
 
-not_optional : (w : ComponentWorld) (role : Import) (o : Option Intrinsic) → plain_intrinsic w.can_use_context_slot_1 role ≡ o → (name : Intrinsic) → plain_type name ≡ None → (operand : Operand) (options : List TargetOption) → link_of_intrinsic role o ≡ BuiltIn name operand options → ⊥
+not_optional : (w : ComponentWorld) (role : Import) (o : Option Intrinsic) → plain_intrinsic w.can_use_context_slot_1 role ≡ o → (name : Intrinsic) → may_have_shim name ≡ true → (operand : Operand) (options : List TargetOption) → link_of_intrinsic role o ≡ BuiltIn name operand options → ⊥
 not_optional w (imports.TlsBaseGet type) None e name with_options operand options is = cc
 not_optional w (imports.TlsBaseSet type) None e name with_options operand options is = cc
 not_optional w role None e name with_options operand options is = cc
 not_optional w role (Some i) e name with_options operand options is =
     let typed : IsSome (plain_type i) = ap is_some (ap (option_and_then plain_type) (sym (usable_too w.can_use_context_slot_1 role i e))) ∙ plain_typed w.can_use_context_slot_1 role (ap is_some e) in
-    true≢false (sym typed ∙ ap (λ (t : Target). is_some (plain_type (name_in t))) is ∙ ap is_some with_options)
+    true≢false (sym (ap (λ (t : Target). may_have_shim (name_in t)) is ∙ with_options) ∙ plain_has_none i typed)
 
-built_in_through : (w : ComponentWorld) (of : UserModule) (role : Import) → IsImportRole w role → (name : Intrinsic) → plain_type name ≡ None → (operand : Operand) (options : List TargetOption) → link_of w of role ≡ BuiltIn name operand options → IsThrough role
+-- nor has one of a stream or a future that neither reads nor writes
+typed_not_optional : (w : ComponentWorld) (role : Import) → is_access role ≡ false → (o : Option PayloadCall) → named_call role ≡ o → (name : Intrinsic) → may_have_shim name ≡ true → (operand : Operand) (options : List TargetOption) → link_of_payload w role o ≡ BuiltIn name operand options → ⊥
+typed_not_optional w role apart (Some c) e name with_options operand options is = true≢false (sym (ap (λ (t : Target). may_have_shim (name_in t)) is ∙ with_options) ∙ payload_has_none role c apart e)
+typed_not_optional w role apart None e name with_options operand options is = not_optional w role (plain_intrinsic w.can_use_context_slot_1 role) refl name with_options operand options is
+
+built_in_through : (w : ComponentWorld) (of : UserModule) (role : Import) → IsImportRole w role → (name : Intrinsic) → may_have_shim name ≡ true → (operand : Operand) (options : List TargetOption) → link_of w of role ≡ BuiltIn name operand options → IsThrough role
 built_in_through w of (imports.WorldFunc (keys.Name text) function abi) right name with_options operand options is = tt
 built_in_through w of (imports.InterfaceFunc key id function abi) right name with_options operand options is = tt
 built_in_through w of (imports.ExportedTaskReturn key interface g) right name with_options operand options is = tt
@@ -435,6 +512,10 @@ built_in_through w of imports.WaitableSetWait right name with_options operand op
 built_in_through w of imports.WaitableSetPoll right name with_options operand options is = tt
 built_in_through w of (imports.ErrorContextNew encoding) right name with_options operand options is = tt
 built_in_through w of (imports.ErrorContextDebugMessage encoding) right name with_options operand options is = tt
+built_in_through w of (imports.StreamRead p is_async) right name with_options operand options is = tt
+built_in_through w of (imports.StreamWrite p is_async) right name with_options operand options is = tt
+built_in_through w of (imports.FutureRead p is_async) right name with_options operand options is = tt
+built_in_through w of (imports.FutureWrite p is_async) right name with_options operand options is = tt
 built_in_through w of (imports.ImportedResourceDrop key interface id) right name with_options operand options is = cc
 built_in_through w of (imports.ExportedResourceDrop key id) right name with_options operand options is = cc
 built_in_through w of (imports.ExportedResourceRep key id) right name with_options operand options is = cc
@@ -443,7 +524,7 @@ built_in_through w of (imports.MainModuleMemory memory) right name with_options 
 built_in_through w of (imports.MainModuleExport field kind) right name with_options operand options is = cc
 built_in_through w of (imports.AdapterExport adapter field function) right name with_options operand options is = cc
 built_in_through w of (imports.Item item) right name with_options operand options is = cc
-built_in_through w of role right name with_options operand options is = absurd (not_optional w role (plain_intrinsic w.can_use_context_slot_1 role) refl name with_options operand options is)
+built_in_through w of role right name with_options operand options is = absurd (typed_not_optional w role refl (named_call role) refl name with_options operand options is)
 
 -- the core type of what a target names
 abbrev type_of_target : ComponentWorld → Target → Option ExternType
@@ -461,6 +542,10 @@ through_typed w of imports.WaitableSetWait right h = refl
 through_typed w of imports.WaitableSetPoll right h = refl
 through_typed w of (imports.ErrorContextNew encoding) right h = refl
 through_typed w of (imports.ErrorContextDebugMessage encoding) right h = refl
+through_typed w of (imports.StreamRead p is_async) right h = refl
+through_typed w of (imports.StreamWrite p is_async) right h = refl
+through_typed w of (imports.FutureRead p is_async) right h = refl
+through_typed w of (imports.FutureWrite p is_async) right h = refl
 through_typed w of role right h = absurd h
 
 through_fits : (w : ComponentWorld) (role : Import) → IsThrough role → (type : ExternType) → FitsRole w role type → type_of_import w.resolve (items_of w) role ≡ Some type
@@ -471,6 +556,10 @@ through_fits w imports.WaitableSetWait h type fits = fits
 through_fits w imports.WaitableSetPoll h type fits = fits
 through_fits w (imports.ErrorContextNew encoding) h type fits = fits
 through_fits w (imports.ErrorContextDebugMessage encoding) h type fits = fits
+through_fits w (imports.StreamRead p is_async) h type fits = fits
+through_fits w (imports.StreamWrite p is_async) h type fits = fits
+through_fits w (imports.FutureRead p is_async) h type fits = fits
+through_fits w (imports.FutureWrite p is_async) h type fits = fits
 through_fits w role h type fits = absurd h
 
 -- a shim for what an import of a role is to be given has the core type of each import that fits the role

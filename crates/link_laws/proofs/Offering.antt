@@ -35,8 +35,9 @@ use Rattle.comp_worlds.specs.declared.world.ValidatedModule.{ValidatedModule}
 use Rattle.comp_worlds.specs.declared.world.WorldAdapter.{WorldAdapter}
 use Rattle.comp_links.proofs.Named.{listed_found, named_found, listed_there}
 use Rattle.built_ins.specs.BuiltIns.{plain_intrinsic}
+use Rattle.built_ins.specs.Payloads.{PayloadCall, named_call}
 use Rattle.comp_bytes.specs.declared.canon.Intrinsic.{Intrinsic}
-use Rattle.comp_links.specs.Links.{link_of_intrinsic, link_of, module_of}
+use Rattle.comp_links.specs.Links.{link_of_intrinsic, link_of_payload, link_of, module_of}
 use Rattle.comp_links.specs.Modules.{WorldModule, user_modules, module_found}
 use Rattle.comp_links.specs.Targets.{UserModule, Main, Adapter, ExportRef, Target, ExportOf, MainMemory}
 use Rattle.standard_kinds.specs.declared.kinds.ExportKind.TheVariants as kinds
@@ -62,6 +63,11 @@ not_export (imports.TlsBaseGet type) None e is = cc
 not_export (imports.TlsBaseSet type) None e is = cc
 not_export role None e is = cc
 not_export role (Some i) e is = cc
+
+-- nor is a function of a stream or a future
+payload_no_export : (w : ComponentWorld) (role : Import) (o : Option PayloadCall) (e : ExportRef) → link_of_payload w role o ≡ ExportOf e → ⊥
+payload_no_export w role (Some c) e is = cc
+payload_no_export w role None e is = not_export role (plain_intrinsic w.can_use_context_slot_1 role) e is
 
 module _ (w : ComponentWorld) (ok : IsWorld w) where
   main_found : (m : WorldModule) → Contains (user_modules w) m → m.of ≡ Main → m.found ≡ w.main
@@ -106,8 +112,12 @@ module _ (w : ComponentWorld) (ok : IsWorld w) where
   offered_matches of imports.WaitableSetPoll e right is m listed same t offered type fits = cc
   offered_matches of (imports.ErrorContextNew encoding) e right is m listed same t offered type fits = cc
   offered_matches of (imports.ErrorContextDebugMessage encoding) e right is m listed same t offered type fits = cc
+  offered_matches of (imports.StreamRead p is_async) e right is m listed same t offered type fits = cc
+  offered_matches of (imports.StreamWrite p is_async) e right is m listed same t offered type fits = cc
+  offered_matches of (imports.FutureRead p is_async) e right is m listed same t offered type fits = cc
+  offered_matches of (imports.FutureWrite p is_async) e right is m listed same t offered type fits = cc
   offered_matches of (imports.MainModuleMemory memory) e right is m listed same t offered type fits = cc
-  offered_matches of role e right is m listed same t offered type fits = absurd (not_export role (plain_intrinsic w.can_use_context_slot_1 role) e is)
+  offered_matches of role e right is m listed same t offered type fits = absurd (payload_no_export w role (named_call role) e is)
 
 -- ---- types of what is given
 

@@ -15,36 +15,45 @@ use Rattle.comp_roles.specs.declared.imports.Import.{Import}
 use Rattle.comp_roles.specs.declared.imports.Import.TheVariants as imports
 use Rattle.comp_roles.specs.declared.libraries.MainOrAdapter.{MainOrAdapter}
 use Rattle.comp_roles.specs.declared.libraries.MainOrAdapter.TheVariants as users
+use Rattle.comp_roles.specs.declared.payloads.PayloadFuncKind.{PayloadFuncKind}
+use Rattle.comp_roles.specs.declared.payloads.PayloadFuncKind.TheVariants as ends
+use Rattle.comp_roles.specs.declared.payloads.PayloadInfo.{PayloadInfo}
+use Rattle.comp_worlds.specs.Payloads.{IsPayload, payload_scope}
 use Rattle.comp_worlds.specs.Encodable.{IsEncodable}
 use Rattle.comp_worlds.specs.ExportOrder.{AreExportsInOrder}
 use Rattle.comp_worlds.specs.WorldContents.{imported_name}
 use Rattle.comp_worlds.specs.Worlds.{IsImportRole, IsOwnFunction}
 use Rattle.comp_worlds.specs.declared.lowerings.LoweringKey.{LoweringKey}
 use Rattle.comp_worlds.specs.declared.world.ComponentWorld.{ComponentWorld}
-use Rattle.comp_links.specs.Links.{error_message, link_of, lower_needs, lower_options, lower_realloc, module_of, options_in, task_return}
+use Rattle.comp_links.specs.Links.{error_message, link_of, lower_needs, lower_options, lower_realloc, module_of, payload_realloc, role_realloc, options_in, task_return}
 use Rattle.comp_links.specs.Modules.{UserImport, module_found}
-use Rattle.comp_links.specs.Roles.{import_encoding}
+use Rattle.comp_links.specs.Roles.{import_encoding, payload_encoding}
 use Rattle.comp_links.specs.Roles.{encoding_in as encoding_of_role}
-use Rattle.comp_links.specs.Targets.{UserModule as User, Main, Adapter, ExportRef, WorldFunction, OfRoot, OfInterface, Lowered, BuiltIn, NoType, Target, operand_if_any}
-use Rattle.comp_terms.specs.Generated.{interface_imported, role_of_kind, export_of_kind, OfExport}
+use Rattle.comp_links.specs.Targets.{UserModule as User, Main, Adapter, ExportRef, WorldFunction, OfRoot, OfInterface, Lowered, BuiltIn, NoType, Target, operand_if_any, payload_operand}
+use Rattle.comp_terms.specs.Generated.{access_role, interface_imported, role_of_kind, export_of_kind, OfExport}
 use Rattle.comp_terms.specs.Shimmed.{shim_owner}
 use Rattle.comp_terms.specs.Terms as terms
-use Rattle.core_options.specs.MainOptions.{IsAliasOf, HasLowerOptions, function_name, function_wanted}
+use Rattle.core_options.specs.MainOptions.{access_name, IsAliasOf, HasLowerOptions, function_name, function_wanted}
 use Rattle.comp_options.specs.Options.{needs, error_message_set}
 use Rattle.comp_worlds.specs.declared.world.ValidatedModule.{ValidatedModule}
-use Rattle.shim_plan.specs.Needed.{function_kind, function_options}
+use Rattle.shim_plan.specs.Needed.{access_to, accessed_of, function_kind, function_options}
 use Rattle.shim_plan.specs.declared.memory_functions.MemoryFunction.{MemoryFunction}
 use Rattle.shim_plan.specs.declared.memory_functions.MemoryFunction.TheVariants as functions
 use Rattle.shim_plan.specs.declared.kinds.ShimKind.{ShimKind}
 use Rattle.shim_plan.specs.declared.kinds.ShimKind.TheVariants as kinds
 use Rattle.shim_plan.specs.declared.shims.Shim.{Shim}
 use Rattle.shim_targets.specs.ShimTargets.{StandsFor, StandsForExport, StandsForOne, kind_of_import, which_of}
-use Rattle.root_imports.proofs.Supplying.{return_result, return_supplied}
+use Rattle.interface_needs.proofs.PayloadNeeds.{payload_for}
+use Rattle.interface_needs.specs.RootNeeds.{IsPayloadFor}
+use Rattle.shim_targets.proofs.Owners.{AccessImport, access_import_of}
+use Rattle.shim_targets.proofs.Users.{among_all}
+use Rattle.core_options.proofs.PayloadFunctions.{access_linked}
+use Rattle.root_imports.proofs.Supplying.{payload_supplied, return_result, return_supplied}
 use Rattle.root_imports.specs.Imports.{IsResult}
 use Rattle.root_imports.specs.Met.{AreExportsMet, IsSuppliedFor}
 use Rattle.root_imports.specs.declared.met_types.MetTypes.{MetTypes}
 use Rattle.shim_targets.proofs.ByKind.{of_export, for_import, for_lowering, for_return, for_export}
-use Rattle.main_fixup.specs.Filling.{HasShimOptions, IsUserNamed, OffersExport, IsUsed, IsUsedAt, IsFunctionAt, IsBehind, IsReturnBehind, IsFunctionBehind, ServesShim, function_at}
+use Rattle.main_fixup.specs.Filling.{HasShimOptions, IsAccessBehind, IsUserNamed, OffersExport, IsUsed, IsUsedAt, IsFunctionAt, IsBehind, IsReturnBehind, IsFunctionBehind, ServesShim, function_at}
 use Rattle.main_fixup.proofs.Named.{import_named, shim_offered}
 use Rattle.main_fixup.proofs.Uses.{used_by_import, used_of_import}
 
@@ -65,6 +74,7 @@ record Called (w : ComponentWorld) (i : UserImport) (interface : Option WorldKey
   of : i.of ≡ module_of which
   linked : link_of w i.of i.core.role ≡ Lowered called (lower_options w i.of i.core.role)
   encoded : import_encoding w i.of i.core.role ≡ Some encoding
+  reallocated : role_realloc w i.of i.core.role ≡ lower_realloc w i.of
 
 -- an encoding of a role with the kind of a lowering is that of the kind
 same_encoding : (of : User) (role : Import) (e : StringEncoding) (kind : ShimKind) → kind_of_import of role e ≡ Some kind → is_lowering kind ≡ true → encoding_in kind ≡ e
@@ -75,6 +85,10 @@ same_encoding of imports.WaitableSetWait e kind h lowered = absurd (true≢false
 same_encoding of imports.WaitableSetPoll e kind h lowered = absurd (true≢false (sym lowered ∙ sym (ap is_lowering (same_Some kinds.WaitableSetPoll kind h))))
 same_encoding of (imports.ErrorContextNew own) e kind h lowered = absurd (true≢false (sym lowered ∙ sym (ap is_lowering (same_Some (kinds.ErrorContextNew own) kind h))))
 same_encoding of (imports.ErrorContextDebugMessage own) e kind h lowered = absurd (true≢false (sym lowered ∙ sym (ap is_lowering (same_Some (kinds.ErrorContextDebugMessage (which_of of) own) kind h))))
+same_encoding of (imports.StreamRead p is_async) e kind h lowered = absurd (true≢false (sym lowered ∙ sym (ap is_lowering (same_Some (kinds.PayloadFunc (which_of of) p ends.StreamRead is_async) kind h))))
+same_encoding of (imports.StreamWrite p is_async) e kind h lowered = absurd (true≢false (sym lowered ∙ sym (ap is_lowering (same_Some (kinds.PayloadFunc (which_of of) p ends.StreamWrite is_async) kind h))))
+same_encoding of (imports.FutureRead p is_async) e kind h lowered = absurd (true≢false (sym lowered ∙ sym (ap is_lowering (same_Some (kinds.PayloadFunc (which_of of) p ends.FutureRead is_async) kind h))))
+same_encoding of (imports.FutureWrite p is_async) e kind h lowered = absurd (true≢false (sym lowered ∙ sym (ap is_lowering (same_Some (kinds.PayloadFunc (which_of of) p ends.FutureWrite is_async) kind h))))
 same_encoding of role e kind h lowered = absurd (none-some kind h)
 
 root_linked : (w : ComponentWorld) (of : User) (role : Import) (function : LoweringKey) → role ≡ imports.WorldFunc (keys.Name function.name) function.name function.abi → link_of w of role ≡ Lowered (OfRoot function.name) (lower_options w of role)
@@ -104,6 +118,7 @@ called_by w s i h None function which encoding is =
       of = sym (ap (shim_owner i.of) role) ∙ ap (λ (p : Caller). p.0) both;
       linked = root_linked w i.of i.core.role function role;
       encoded = h.encoded ∙ ap Some (sym (same_encoding i.of i.core.role h.encoding s.kind h.kind (ap is_lowering is)) ∙ ap encoding_in is);
+      reallocated = ap (role_realloc w i.of) role;
     }
 called_by w s i h (Some key) function which encoding is = by (interface_imported w key) refl (ap (role_of_kind w) (sym is) ∙ h.is.of_kind)
   where
@@ -120,6 +135,7 @@ called_by w s i h (Some key) function which encoding is = by (interface_imported
           of = sym (ap (shim_owner i.of) role) ∙ sym (ap (λ (p : Caller). p.0) both);
           linked = interface_linked w i.of i.core.role key id function role;
           encoded = h.encoded ∙ ap Some (sym (same_encoding i.of i.core.role h.encoding s.kind h.kind (ap is_lowering is)) ∙ ap encoding_in is);
+          reallocated = ap (role_realloc w i.of) role;
         }
 
 module _ (w : ComponentWorld) (s : Shim) (h : StandsForOne w s) (interface : Option WorldKey) (function : LoweringKey) (which : MainOrAdapter) (encoding : StringEncoding) (is : s.kind ≡ kinds.IndirectLowering interface function which encoding) where
@@ -142,7 +158,7 @@ module _ (w : ComponentWorld) (s : Shim) (h : StandsForOne w s) (interface : Opt
   found_behind ds realloc index own found =
       let i = for_lowering w s interface function which encoding is h in
       let c = called_by w s i.0 i.1 interface function which encoding is in
-      record { given = i.0; stands = i.1; encoded = c.encoded; reallocated = own ∙ ap (lower_realloc w) (sym c.of); function = c.called; linked = c.linked; is = found c.called c.at }
+      record { given = i.0; stands = i.1; encoded = c.encoded; reallocated = own ∙ (ap (lower_realloc w) (sym c.of) ∙ sym c.reallocated); function = c.called; linked = c.linked; is = found c.called c.at }
 
 -- ---- returns
 
@@ -188,6 +204,10 @@ returning of imports.WaitableSetWait e kind h k is = absurd (none-some k (ap ret
 returning of imports.WaitableSetPoll e kind h k is = absurd (none-some k (ap return_in (same_Some kinds.WaitableSetPoll kind h) ∙ is))
 returning of (imports.ErrorContextNew own) e kind h k is = absurd (none-some k (ap return_in (same_Some (kinds.ErrorContextNew own) kind h) ∙ is))
 returning of (imports.ErrorContextDebugMessage own) e kind h k is = absurd (none-some k (ap return_in (same_Some (kinds.ErrorContextDebugMessage (which_of of) own) kind h) ∙ is))
+returning of (imports.StreamRead p is_async) e kind h k is = absurd (none-some k (ap return_in (same_Some (kinds.PayloadFunc (which_of of) p ends.StreamRead is_async) kind h) ∙ is))
+returning of (imports.StreamWrite p is_async) e kind h k is = absurd (none-some k (ap return_in (same_Some (kinds.PayloadFunc (which_of of) p ends.StreamWrite is_async) kind h) ∙ is))
+returning of (imports.FutureRead p is_async) e kind h k is = absurd (none-some k (ap return_in (same_Some (kinds.PayloadFunc (which_of of) p ends.FutureRead is_async) kind h) ∙ is))
+returning of (imports.FutureWrite p is_async) e kind h k is = absurd (none-some k (ap return_in (same_Some (kinds.PayloadFunc (which_of of) p ends.FutureWrite is_async) kind h) ∙ is))
 returning of role e kind h k is = absurd (none-some kind h)
 
 module _ (w : ComponentWorld) (ok : IsEncodable w) (s : Shim) (h : StandsForOne w s) (interface : Option InterfaceId) (name : List ℕ) (result : Option Ty) (which : MainOrAdapter) (encoding : StringEncoding) (is : s.kind ≡ kinds.TaskReturn interface name result which encoding) where
@@ -216,7 +236,7 @@ module _ (w : ComponentWorld) (ok : IsEncodable w) (s : Shim) (h : StandsForOne 
         given = i;
         stands = given_return.1;
         encoded = given_return.1.encoded ∙ ap Some parts.encoded;
-        reallocated = own ∙ ap (lower_realloc w) (sym parts.from);
+        reallocated = own ∙ (ap (lower_realloc w) (sym parts.from) ∙ sym (ap (role_realloc w i.of) parts.is));
         linked = subst (λ (role : Import). link_of w i.of role ≡ BuiltIn task_return (operand_if_any result) (options role)) (sym parts.is) (ap (λ r. BuiltIn task_return (operand_if_any r) (options (imports.ExportedTaskReturn parts.key interface parts.function))) parts.returns);
         is = subst (λ r. IsResult w interface r) parts.returns (return_result w ok parts.key interface parts.function own_return);
       }
@@ -282,9 +302,58 @@ module _ (w : ComponentWorld) (s : Shim) (h : StandsForOne w s) where
           given = message_stands.0;
           stands = message_stands.1;
           needed = ap (lower_needs w) (sym message_role);
-          reallocated = λ n. own ∙ ap (lower_realloc w) message_of;
+          reallocated = λ n. own ∙ (ap (lower_realloc w) message_of ∙ ap (role_realloc w message_stands.0.of) message_role);
           linked = subst (λ (p : Caller). link_of w p.0 p.1 ≡ wanted realloc (Some encoding)) message_stands.2 linked;
         }
+
+-- ---- reads and writes
+
+-- the role of one
+accessed_back : (p : PayloadInfo) (kind : PayloadFuncKind) (is_async : Bool) → accessed_of (access_role p kind is_async) ≡ Some (access_to p kind is_async)
+accessed_back p ends.FutureRead is_async = refl
+accessed_back p ends.FutureWrite is_async = refl
+accessed_back p ends.StreamRead is_async = refl
+accessed_back p ends.StreamWrite is_async = refl
+
+module _ (w : ComponentWorld) (ok : IsEncodable w) (s : Shim) (h : StandsForOne w s) (which : MainOrAdapter) (p : PayloadInfo) (kind : PayloadFuncKind) (is_async : Bool) (is : s.kind ≡ kinds.PayloadFunc which p kind is_async) where
+  access_stands : (i : UserImport) × StandsFor w s i × (caller (module_of which) (access_role p kind is_async) ≡ caller (shim_owner i.of i.core.role) i.core.role)
+  access_stands = stands_as w s h (module_of which) (access_role p kind is_async) (ap of_export is) (ap (role_of_kind w) is)
+
+  abbrev access_given : UserImport
+  access_given = access_stands.0
+
+  same_role : access_role p kind is_async ≡ access_given.core.role
+  same_role = ap (λ (x : Caller). x.1) access_stands.2
+
+  own_access : AccessImport w access_given.of access_given.core.role (access_to p kind is_async)
+  own_access = access_import_of w access_given.of access_given.core.role (access_to p kind is_async) (ap accessed_of (sym same_role) ∙ accessed_back p kind is_async)
+
+  access_of : module_of which ≡ access_given.of
+  access_of = ap (λ (x : Caller). x.0) access_stands.2 ∙ own_access.own
+
+  -- the module whose import it is
+  pub access_named : IsUserNamed w (module_of which)
+  access_named = subst (IsUserNamed w) (sym access_of) (import_named w access_given access_stands.1.present)
+
+  -- the stream or the future is one of the world
+  access_payload : IsPayload w p
+  access_payload = own_access.right access_stands.1.is.right
+
+  pub access_types : IsPayloadFor w (payload_scope p) p.ty
+  access_types = payload_for w ok access_given.core (among_all w access_given access_stands.1.present) p own_access.payload access_payload
+
+  pub access_supplied : (met : MetTypes) → AreExportsMet w met → AreExportsInOrder w → IsSuppliedFor w met (payload_scope p)
+  access_supplied met exports ordered = payload_supplied w ok met exports ordered p access_payload
+
+  pub access_found : (m : ValidatedModule) → module_found w (module_of which) ≡ Some m → (realloc : Option ExportRef) → realloc ≡ payload_realloc w (module_of which) p → IsAccessBehind w s p kind (payload_encoding p p.ty m) realloc
+  access_found m found realloc own = record {
+    given = access_given;
+    stands = access_stands.1;
+    encoded = ap (option_and_then (encoding_of_role access_given.core.role)) (ap (module_found w) (sym access_of) ∙ found) ∙ own_access.encoded m;
+    reallocated = own ∙ (ap (λ (of : User). payload_realloc w of p) access_of ∙ sym own_access.reallocated);
+    own = own_access.own;
+    linked = subst (λ (role : Import). link_of w access_given.of role ≡ BuiltIn (access_name kind) (payload_operand p.ty) (lower_options w access_given.of role)) same_role (access_linked w access_given.of p kind is_async);
+  }
 
 -- ---- exports
 

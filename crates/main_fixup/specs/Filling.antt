@@ -17,11 +17,13 @@ use Rattle.comp_worlds.specs.Encodable.{IsEncodable}
 use Rattle.comp_worlds.specs.ExportOrder.{AreExportsInOrder}
 use Rattle.comp_worlds.specs.WorldContents.{items_of}
 use Rattle.comp_worlds.specs.declared.world.ComponentWorld.{ComponentWorld}
-use Rattle.comp_links.specs.Links.{link_of, lower_needs, lower_options, lower_realloc, task_return}
+use Rattle.comp_links.specs.Links.{link_of, lower_needs, lower_options, role_realloc, task_return}
 use Rattle.comp_links.specs.Lists.{IsOriginOf}
 use Rattle.comp_links.specs.Roles.{is_used, is_used_of, import_encoding}
 use Rattle.comp_links.specs.Modules.{IsModule, UserImport, user_imports}
-use Rattle.comp_links.specs.Targets.{UserModule as User, ExportRef, WorldFunction, OfRoot, OfInterface, Lowered, BuiltIn, NoType, operand_if_any}
+use Rattle.comp_links.specs.Targets.{UserModule as User, ExportRef, WorldFunction, OfRoot, OfInterface, Lowered, BuiltIn, NoType, operand_if_any, payload_operand}
+use Rattle.comp_roles.specs.declared.payloads.PayloadFuncKind.{PayloadFuncKind}
+use Rattle.comp_roles.specs.declared.payloads.PayloadInfo.{PayloadInfo}
 use Rattle.comp_options.specs.Options.{needs, realloc_bit}
 use Rattle.shim_plan.specs.Needed.{function_options}
 use Rattle.shim_plan.specs.declared.memory_functions.MemoryFunction.{MemoryFunction}
@@ -41,7 +43,7 @@ use Rattle.root_imports.specs.Imports.{FindsImports, FindsUsed, IsResult}
 use Rattle.root_imports.specs.Met.{AreExportsMet}
 use Rattle.core_options.specs.declared.fault.StateFault.{StateFault}
 use Rattle.core_options.specs.Causes.{IsCauseAmong}
-use Rattle.core_options.specs.MainOptions.{IsFunctionOf, AreUserInstances, OffersFunction, HasLowerOptions, function_name, function_wanted}
+use Rattle.core_options.specs.MainOptions.{IsFunctionOf, AreUserInstances, OffersFunction, HasLowerOptions, access_name, function_name, function_wanted}
 use Rattle.shim_targets.specs.ShimTargets.{StandsFor}
 use Rattle.main_fixup.specs.declared.sources.FillSources.{FillSources}
 
@@ -128,7 +130,7 @@ pub record IsBehind (w : ComponentWorld) (ds : List Def) (s : Shim) (encoding : 
   pub given : UserImport
   pub stands : StandsFor w s given
   pub encoded : import_encoding w given.of given.core.role ≡ Some encoding
-  pub reallocated : realloc ≡ lower_realloc w given.of
+  pub reallocated : realloc ≡ role_realloc w given.of given.core.role
   pub function : WorldFunction
   pub linked : link_of w given.of given.core.role ≡ Lowered function (lower_options w given.of given.core.role)
   pub is : IsFunctionOf w ds index function
@@ -139,7 +141,7 @@ pub record IsReturnBehind (w : ComponentWorld) (s : Shim) (encoding : StringEnco
   pub given : UserImport
   pub stands : StandsFor w s given
   pub encoded : import_encoding w given.of given.core.role ≡ Some encoding
-  pub reallocated : realloc ≡ lower_realloc w given.of
+  pub reallocated : realloc ≡ role_realloc w given.of given.core.role
   pub linked : link_of w given.of given.core.role ≡ BuiltIn task_return (operand_if_any result) (lower_options w given.of given.core.role)
   pub is : IsResult w interface result
 
@@ -148,8 +150,17 @@ pub record IsFunctionBehind (w : ComponentWorld) (s : Shim) (function : MemoryFu
   pub given : UserImport
   pub stands : StandsFor w s given
   pub needed : lower_needs w given.core.role ≡ (function_options function).0
-  pub reallocated : IsTrue (needs (function_options function).0 realloc_bit) → realloc ≡ lower_realloc w given.of
+  pub reallocated : IsTrue (needs (function_options function).0 realloc_bit) → realloc ≡ role_realloc w given.of given.core.role
   pub linked : link_of w (shim_owner given.of given.core.role) given.core.role ≡ BuiltIn (function_name function) NoType (function_wanted function realloc)
+
+-- the shim stands for imports of a read or a write of this stream or future, with this string encoding and this realloc
+pub record IsAccessBehind (w : ComponentWorld) (s : Shim) (p : PayloadInfo) (kind : PayloadFuncKind) (encoding : StringEncoding) (realloc : Option ExportRef) : Type 0 where
+  pub given : UserImport
+  pub stands : StandsFor w s given
+  pub encoded : import_encoding w given.of given.core.role ≡ Some encoding
+  pub reallocated : realloc ≡ role_realloc w given.of given.core.role
+  pub own : shim_owner given.of given.core.role ≡ given.of
+  pub linked : link_of w given.of given.core.role ≡ BuiltIn (access_name kind) (payload_operand p.ty) (lower_options w given.of given.core.role)
 
 -- the core function of this index is what the shim stands for
 pub record ServesShim (w : ComponentWorld) (ds : List Def) (s : Shim) (index : ℕ) : Type 0 where

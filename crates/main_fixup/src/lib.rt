@@ -11,9 +11,9 @@
 //!
 //! In reading order: `sources` (what is given), `modules` (user modules, as shims name them),
 //! `functions` (the function of the world that a shim stands for), `exports` (an alias of what a
-//! user module exports), `functions_of_memory` (waits, and functions of error contexts), `lowerings`
-//! (a lowering, and what is behind a shim of any kind), `fills` (the inline instance with all of
-//! them), `arguments` (what the fixup is given), `fixup` (the module and its instance).
+//! user module exports), `functions_of_memory` (waits, and functions of error contexts), `payloads`
+//! (reads and writes of streams and futures), `lowerings` (a lowering, and what is behind a shim of
+//! any kind), `fills` (the inline instance with all of them), `arguments` (what the fixup is given), `fixup` (the module and its instance).
 #![tactic(auto)]
 
 mod arguments;
@@ -24,6 +24,7 @@ mod functions;
 mod functions_of_memory;
 mod lowerings;
 mod modules;
+mod payloads;
 mod sources;
 
 pub use fixup::encode_fixup;

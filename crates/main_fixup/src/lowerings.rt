@@ -18,6 +18,7 @@ use crate::exports::{export_of_adapter, export_of_module};
 use crate::functions::imported_function;
 use crate::functions_of_memory::{function_of_all, message_behind};
 use crate::modules::options_of_calls;
+use crate::payloads::payload_behind;
 use crate::sources::FillSources;
 use comp_lists::Text;
 use comp_roles::MainOrAdapter;
@@ -112,10 +113,11 @@ fn return_behind(
 
 /// The core function that a shim stands for: the lowering of the function at the root, or of an
 /// alias of that of an imported interface; the return from a function that the world exports; a
-/// wait, or a function of error contexts; or an alias of what a user module exports.
+/// wait, or a function of error contexts; a read or a write of a stream or a future; or an alias of
+/// what a user module exports.
 ///
 /// `E7` where it needs a memory and main has none, `E8` where it needs a realloc and there is none
-/// for the imports of the module.
+/// for the imports of the module, or for its exports, where it reads from a stream or a future of one.
 pub(crate) fn function_behind(
     root: &mut RootScope<'_, ComponentWorld>,
     sources: &FillSources<'_>,
@@ -172,6 +174,11 @@ pub(crate) fn function_behind(
             let aliased = export_of_adapter(root, sources, adapter, func)?;
             Ok(aliased)
         }
-        _ => unreachable!(),
+        ShimKind::PayloadFunc {
+            for_module,
+            info,
+            kind,
+            async_,
+        } => payload_behind(root, sources, shim, for_module, info, *kind, *async_),
     }
 }

@@ -1,8 +1,10 @@
-//! User modules, as the kinds of shims name them: their instances, and the options of calls of their imports.
+//! User modules, as the kinds of shims name them: their instances, and the options of calls of their imports,
+//! and of reads and writes of streams and futures.
 
 ghost use Rattle.std.specs.Prelude.{◌≡◌, ℕ, Some, IfSome};
 ghost use Rattle.std.specs.Option.{option_map};
-ghost use Rattle.comp_links.specs.Links.{lower_realloc, module_of};
+ghost use Rattle.comp_links.specs.Links.{lower_realloc, realloc_of, module_of};
+ghost use Rattle.comp_roles.specs.Reallocs.{is_realloc_of};
 ghost use Rattle.comp_links.specs.Modules.{IsModule, module_found};
 ghost use Rattle.comp_links.specs.Targets.{Adapter};
 ghost use Rattle.comp_terms.specs.Terms.{IsInstanceOf};
@@ -13,7 +15,7 @@ use crate::sources::FillSources;
 use comp_lists::Text;
 use comp_roles::MainOrAdapter;
 use comp_worlds::{ComponentWorld, CustomModule, ValidatedModule};
-use core_options::{InstanceExport, OptionSources, import_realloc_of};
+use core_options::{InstanceExport, OptionSources, import_realloc_of, payload_realloc_of};
 use root_imports::RootScope;
 
 /// The module that a shim names, as code names it.
@@ -27,7 +29,10 @@ pub(crate) fn custom_module(which: &MainOrAdapter) -> CustomModule<'_>
 }
 
 /// What validation found of the module that a shim names.
-fn validated_module<'a>(world: &'a ComponentWorld, which: &MainOrAdapter) -> &'a ValidatedModule
+pub(crate) fn validated_module<'a>(
+    world: &'a ComponentWorld,
+    which: &MainOrAdapter,
+) -> &'a ValidatedModule
     requires { IsUserNamed world.now (module_of which.now) }
     ensures { module_found world.now (module_of which.now) ≡ Some result.now }
 {
@@ -101,6 +106,48 @@ pub(crate) fn options_of_calls<'a>(
         ≡ lower_realloc root.now.world.now (module_of which.now) }
 {
     let realloc = realloc_of_calls(root, sources, which);
+    OptionSources {
+        memory: sources.instances.memory,
+        realloc,
+    }
+}
+
+/// The realloc of reads of a stream or a future, which is one of a function that the module imports, or
+/// exports, if there is one.
+fn realloc_of_payload<'a>(
+    root: &RootScope<'a, ComponentWorld>,
+    sources: &FillSources<'_>,
+    which: &'a MainOrAdapter,
+    imported: bool,
+) -> Option<InstanceExport<'a>>
+    requires sources { HasFillSources root.now sources.now }
+    requires named { IsUserNamed root.now.world.now (module_of which.now) }
+    ensures same { option_map export_ref_of result
+        ≡ realloc_of root.now.world.now (module_of which.now) (is_realloc_of imported) }
+    ensures made { IfSome result (IsInstanceExport root.now.world.now root.now.items.defs) }
+{
+    let of = custom_module(which);
+    let validated = validated_module(root.world, which);
+    let instance = instance_of_module(root, sources, which);
+    let main = sources.instances.main;
+    payload_realloc_of(root.world, of, validated, main, instance, imported)
+}
+
+/// The options of reads and writes of a stream or a future: main's memory, and the realloc of the
+/// module.
+pub(crate) fn options_of_payload<'a>(
+    root: &RootScope<'a, ComponentWorld>,
+    sources: &FillSources<'a>,
+    which: &'a MainOrAdapter,
+    imported: bool,
+) -> OptionSources<'a>
+    requires sources { HasFillSources root.now sources.now }
+    requires named { IsUserNamed root.now.world.now (module_of which.now) }
+    ensures options { AreOptionSources root.now.world.now root.now.items.defs result }
+    ensures realloc { option_map export_ref_of result.realloc
+        ≡ realloc_of root.now.world.now (module_of which.now) (is_realloc_of imported) }
+{
+    let realloc = realloc_of_payload(root, sources, which, imported);
     OptionSources {
         memory: sources.instances.memory,
         realloc,

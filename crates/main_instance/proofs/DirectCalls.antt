@@ -25,10 +25,10 @@ use Rattle.comp_worlds.specs.declared.modules.CustomModule.{CustomModule}
 use Rattle.comp_worlds.specs.declared.modules.CustomModule.TheVariants as named
 use Rattle.comp_worlds.specs.declared.world.ComponentWorld.{ComponentWorld}
 use Rattle.comp_worlds.specs.declared.world.ValidatedModule.{ValidatedModule}
-use Rattle.comp_links.specs.Links.{options_in, export_at, lower_needs, lower_options, lower_realloc}
+use Rattle.comp_links.specs.Links.{options_in, export_at, lower_needs, lower_options, lower_realloc, role_realloc, is_always_shimmed}
 use Rattle.comp_links.specs.Modules.{module_found, user_imports}
-use Rattle.comp_links.specs.Roles.{import_encoding, is_always_shimmed, field_path}
-use Rattle.comp_links.specs.Targets.{UserModule as User, Main, Adapter, WorldFunction, Lowered}
+use Rattle.comp_links.specs.Roles.{import_encoding, field_path}
+use Rattle.comp_links.specs.Targets.{UserModule as User, Main, Adapter, ExportRef, WorldFunction, Lowered}
 use Rattle.comp_links.specs.Targets as targets
 use Rattle.comp_terms.specs.Generated.{shims_number}
 use Rattle.comp_terms.specs.Planned.{memory_from, main_memory, shim_export, IsItemFor}
@@ -122,9 +122,16 @@ pub needed_is : (w : ComponentWorld) → IsEncodable w → (of : User) (m : Vali
 needed_is w ok of m there i present called options is = ap (λ (o : RequiredOptions). o.0) is ∙ options_needed w ok (record { of = of; core = i }) (of_module w of m i there present) called
 
 -- the role of a call has no shim where main imports its memory
-called_apart : (role : Import) → IsSome (call_of role) → is_always_shimmed role ≡ false
-called_apart (imports.ErrorContextDebugMessage encoding) called = absurd (true≢false (sym called))
-called_apart role called = refl
+called_apart : (w : ComponentWorld) (role : Import) → IsSome (call_of role) → is_always_shimmed w role ≡ false
+called_apart w (imports.WorldFunc key function abi) called = refl
+called_apart w (imports.InterfaceFunc key id function abi) called = refl
+called_apart w role called = absurd (true≢false (sym called))
+
+-- its realloc is that of the module's imports
+called_realloc : (w : ComponentWorld) (of : User) (role : Import) → IsSome (call_of role) → role_realloc w of role ≡ lower_realloc w of
+called_realloc w of (imports.WorldFunc key function abi) called = refl
+called_realloc w of (imports.InterfaceFunc key id function abi) called = refl
+called_realloc w of role called = absurd (true≢false (sym called))
 
 module _ (w : ComponentWorld) (ok : IsEncodable w) (of : User) (m : ValidatedModule) (there : module_found w of ≡ Some m) (i : CoreImport) (present : Contains (imports_of m) i) (called : IsSome (call_of i.role)) (plain : shared_memory w ≡ None → NamesNoExport (lower_needs w i.role)) (set : ℕ) (same : set ≡ lower_needs w i.role) where
   -- where main imports no memory, the options name neither a memory nor a realloc
@@ -144,20 +151,25 @@ module _ (w : ComponentWorld) (ok : IsEncodable w) (of : User) (m : ValidatedMod
 
   -- its realloc has a shim
   pub realloc_planned_for : IsTrue (needs set 2) → HasReallocShim w of m
-  realloc_planned_for needed r is = realloc_there w ok (shared_by 2 (λ n. n.realloc) needed) of m there i present (called_apart i.role called) (subst (λ n. IsTrue (needs n 2)) same needed) r is
+  realloc_planned_for needed r is = realloc_there w ok (shared_by 2 (λ n. n.realloc) needed) of m there i present (called_apart w i.role called) (subst (λ n. IsTrue (needs n 2)) same needed) r is
+
+  -- by its role
+  own_realloc : (ds : List Def) (realloc : Option ℕ) → (IsTrue (needs set 2) → IsReallocIf w ds (lower_realloc w of) realloc) → IsTrue (needs set 2) → IsReallocIf w ds (role_realloc w of i.role) realloc
+  own_realloc ds realloc reallocs needed = subst (λ o. IsReallocIf w ds o realloc) (sym (called_realloc w of i.role called)) (reallocs needed)
 
   -- its options are those of the link table
   pub direct_named : (ds : List Def) (memory realloc : Option ℕ) (encoding : StringEncoding) (written : List CanonicalOption) → import_encoding w of i.role ≡ Some encoding → IsMemoryBefore w ds of memory → (IsTrue (needs set 2) → IsReallocIf w ds (lower_realloc w of) realloc) →
       written ≡ options_of set encoding memory realloc → lacks_memory set memory ≡ false → lacks_realloc set realloc ≡ false → NameOptions w ds written (lower_options w of i.role)
   direct_named ds memory realloc encoding written encoded before reallocs is no_m no_r =
-      let listed_as : AreListed w ds set memory realloc (lower_realloc w of) = record { memory_is = direct_memory ds memory before; realloc_is = reallocs } in
-      let all : NameOptions w ds written (options_in set (lower_realloc w of) (Some encoding)) = named_for w ds set memory realloc (lower_realloc w of) encoding written listed_as is no_m no_r in
-      let of_set : NameOptions w ds written (options_in (lower_needs w i.role) (lower_realloc w of) (Some encoding)) = subst (λ n. NameOptions w ds written (options_in n (lower_realloc w of) (Some encoding))) same all in
-      subst (λ o. NameOptions w ds written (options_in (lower_needs w i.role) (lower_realloc w of) o)) (sym encoded) of_set
+      let own : Option ExportRef = role_realloc w of i.role in
+      let listed_as : AreListed w ds set memory realloc own = record { memory_is = direct_memory ds memory before; realloc_is = own_realloc ds realloc reallocs } in
+      let all : NameOptions w ds written (options_in set own (Some encoding)) = named_for w ds set memory realloc own encoding written listed_as is no_m no_r in
+      let of_set : NameOptions w ds written (options_in (lower_needs w i.role) own (Some encoding)) = subst (λ n. NameOptions w ds written (options_in n own (Some encoding))) same all in
+      subst (λ o. NameOptions w ds written (options_in (lower_needs w i.role) own o)) (sym encoded) of_set
 
-  pub direct_realloc : (ds : List Def) (memory realloc : Option ℕ) → IsMemoryBefore w ds of memory → (IsTrue (needs set 2) → IsReallocIf w ds (lower_realloc w of) realloc) → lacks_realloc set realloc ≡ false → IsTrue (needs (lower_needs w i.role) 2) → IsSome (lower_realloc w of)
+  pub direct_realloc : (ds : List Def) (memory realloc : Option ℕ) → IsMemoryBefore w ds of memory → (IsTrue (needs set 2) → IsReallocIf w ds (lower_realloc w of) realloc) → lacks_realloc set realloc ≡ false → IsTrue (needs (lower_needs w i.role) 2) → IsSome (role_realloc w of i.role)
   direct_realloc ds memory realloc before reallocs no_r needed =
-      has_realloc w ds set memory realloc (lower_realloc w of) (direct_memory ds memory before) reallocs no_r (subst (λ n. IsTrue (needs n 2)) (sym same) needed)
+      has_realloc w ds set memory realloc (role_realloc w of i.role) (direct_memory ds memory before) (own_realloc ds realloc reallocs) no_r (subst (λ n. IsTrue (needs n 2)) (sym same) needed)
 
   -- and what is missing is a cause
   pub direct_refused : (ds : List Def) (memory realloc : Option ℕ) (place : List ℕ) → place ≡ field_path i.module_name i.field → IsMemoryBefore w ds of memory → (IsTrue (needs set 2) → IsReallocIf w ds (lower_realloc w of) realloc) → (e : StateFault) →
@@ -178,9 +190,9 @@ module _ (w : ComponentWorld) (ok : IsEncodable w) (of : User) (m : ValidatedMod
       by : (o : Option MemoryType) → shared_memory w ≡ o → IsCauseAmong w (record { of = of; core = i } ∷ []) [] e
       by None unshared = nothing e unshared h
       by (Some type) shared =
-          let named : place ≡ lowering_place w i = at ∙ ap₂ (λ b o. if not b && is_some o then field_path i.module_name i.field else shim_name i i.role) (sym (called_apart i.role called)) (sym shared) in
-          one_import_refused w (record { of = of; core = i }) (lower_realloc w of) set place same named (λ none. none) e
-          (option_refused w ds set memory realloc (lower_realloc w of) (direct_memory ds memory before) reallocs place e h)
+          let named : place ≡ lowering_place w i = at ∙ ap₂ (λ b o. if not b && is_some o then field_path i.module_name i.field else shim_name i i.role) (sym (called_apart w i.role called)) (sym shared) in
+          one_import_refused w (record { of = of; core = i }) (role_realloc w of i.role) set place same named (λ none. none) e
+          (option_refused w ds set memory realloc (role_realloc w of i.role) (direct_memory ds memory before) (own_realloc ds realloc reallocs) place e h)
 
 -- a lowering with these options is what the link table names
 pub lowered_item : (w : ComponentWorld) (old mid new : List Def) (function index : ℕ) (written : List CanonicalOption) (options : List targets.TargetOption) (called : WorldFunction) → (f : IsFunctionOf w old function called) → (named_as : NameOptions w mid written options) → IsLowering new index f.origin f.type named_as.terms →

@@ -6,9 +6,9 @@ use Rattle.standard_kinds.specs.declared.kinds.StringEncoding.{StringEncoding}
 use Rattle.comp_bytes.specs.declared.canon.CanonicalOption.{CanonicalOption}
 use Rattle.comp_bytes.specs.declared.def.Def.{Def}
 use Rattle.comp_bytes.specs.declared.space.Space.TheVariants as spaces
-use Rattle.comp_links.specs.Links.{error_new, link_of, options_in}
+use Rattle.comp_links.specs.Links.{error_new, link_of, options_in, is_always_shimmed}
 use Rattle.comp_links.specs.Modules.{UserImport, module_found, user_imports}
-use Rattle.comp_links.specs.Roles.{encoding_in, is_always_shimmed, is_main_memory}
+use Rattle.comp_links.specs.Roles.{encoding_in, is_main_memory}
 use Rattle.comp_links.specs.Supplied.{IsSuppliedImport}
 use Rattle.comp_links.specs.Targets.{UserModule as User, Target, NoType, BuiltIn}
 use Rattle.comp_options.specs.OptionLists.{options_of, lacks_memory, lacks_realloc}
@@ -82,7 +82,7 @@ module _ (w : ComponentWorld) (ok : IsEncodable w) (u : UserModule) (user : IsUs
   no_memory h = true≢false (sym h ∙ of_role.other)
 
   -- its shim is there, where main imports no memory, or always
-  pub function_shim_there : (is_always_shimmed i.role ≡ false → shared_memory w ≡ None) → IsSome (shim_of kind (shims_of w))
+  pub function_shim_there : (is_always_shimmed w i.role ≡ false → shared_memory w ≡ None) → IsSome (shim_of kind (shims_of w))
   function_shim_there planned = function_there w ok (record { of = user_of u.which; core = i }) among function is planned
 
   -- it is what the import is given

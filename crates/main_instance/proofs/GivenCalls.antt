@@ -10,7 +10,7 @@ use Rattle.comp_worlds.specs.Encodable.{IsEncodable}
 use Rattle.comp_worlds.specs.Offered.{shared_memory}
 use Rattle.comp_worlds.specs.Uses.{imports_of}
 use Rattle.comp_worlds.specs.declared.world.ComponentWorld.{ComponentWorld}
-use Rattle.comp_links.specs.Links.{link_of, lower_needs, lower_options, lower_realloc}
+use Rattle.comp_links.specs.Links.{link_of, lower_needs, lower_options, role_realloc}
 use Rattle.comp_links.specs.Modules.{user_imports}
 use Rattle.comp_links.specs.Roles.{encoding_in, import_encoding, is_main_memory}
 use Rattle.comp_links.specs.Supplied.{IsSuppliedImport}
@@ -48,7 +48,7 @@ module _ (w : ComponentWorld) (ok : IsEncodable w) (u : UserModule) (user : IsUs
   call_plain ds h unshared = plain_without w ok (record { of = user_of u.which; core = i }) among encoding call_encoded kind own_kind ds 0 h unshared
 
   -- a call whose realloc is there, where main imports its memory, has what it needs
-  pub direct_supplied : (IsTrue (is_main_memory role) → ⊥) → (IsTrue (needs (lower_needs w i.role) 2) → IsSome (lower_realloc w (user_of u.which))) → IsSuppliedImport w (user_of u.which) i.role
+  pub direct_supplied : (IsTrue (is_main_memory role) → ⊥) → (IsTrue (needs (lower_needs w i.role) 2) → IsSome (role_realloc w (user_of u.which) i.role)) → IsSuppliedImport w (user_of u.which) i.role
   direct_supplied other realloc =
       has_encoding w (user_of u.which) u.found.now user.named i.role encoding own_encoding (λ memory. other (subst (λ r. IsTrue (is_main_memory r)) is memory)) (λ shared apart needed. realloc needed)
 

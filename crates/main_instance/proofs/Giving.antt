@@ -14,9 +14,9 @@ use Rattle.comp_roles.specs.declared.imports.Import.TheVariants as imports
 use Rattle.comp_worlds.specs.Encodable.{IsEncodable}
 use Rattle.comp_worlds.specs.Offered.{shared_memory}
 use Rattle.comp_worlds.specs.declared.world.ComponentWorld.{ComponentWorld}
-use Rattle.comp_links.specs.Links.{lower_needs}
+use Rattle.comp_links.specs.Links.{lower_needs, is_always_shimmed}
 use Rattle.comp_links.specs.Modules.{UserImport, user_imports}
-use Rattle.comp_links.specs.Roles.{import_encoding, is_always_shimmed}
+use Rattle.comp_links.specs.Roles.{import_encoding}
 use Rattle.comp_links.specs.Targets.{UserModule, Adapter, ExportOf}
 use Rattle.comp_terms.specs.Generated.{shims_number, OfImport, OfExport}
 use Rattle.comp_terms.specs.Shimmed.{shim_owner}
@@ -70,7 +70,7 @@ module _ (w : ComponentWorld) (ok : IsEncodable w) (i : UserImport) (present : C
       }))
 
   -- then main imports no memory, unless such an import has a shim always
-  pub unshared_by_shim : is_always_shimmed i.core.role ≡ false → IsShimAlias w ds kind (Some index) → shared_memory w ≡ None
+  pub unshared_by_shim : is_always_shimmed w i.core.role ≡ false → IsShimAlias w ds kind (Some index) → shared_memory w ≡ None
   unshared_by_shim apart h = given_unshared w ok i.of i.core.role encoding kind of_kind apart h.0 h.1
 
   -- without one, its options name nothing that a module exports, unless main imports its memory

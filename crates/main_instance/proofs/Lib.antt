@@ -9,5 +9,7 @@ mod OwnHandles
 pub mod BuiltIns
 pub mod OfMain
 pub mod Cells
+pub mod PayloadCalls
+pub mod AccessCalls
 pub mod ReturnCalls
 pub mod Functions

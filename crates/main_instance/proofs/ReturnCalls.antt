@@ -5,7 +5,7 @@ use Rattle.comp_bytes.specs.declared.canon.CanonicalOption.{CanonicalOption}
 use Rattle.comp_bytes.specs.declared.def.Def.{Def}
 use Rattle.comp_bytes.specs.declared.space.Space.TheVariants as spaces
 use Rattle.comp_links.specs.Modules.{UserImport}
-use Rattle.comp_links.specs.Links.{link_of, lower_needs, lower_options, lower_realloc, options_in}
+use Rattle.comp_links.specs.Links.{link_of, lower_needs, lower_options, role_realloc, options_in}
 use Rattle.comp_links.specs.Roles.{encoding_in}
 use Rattle.comp_links.specs.Supplied.{IsSuppliedImport}
 use Rattle.comp_links.specs.Targets.{UserModule as User, Main, Adapter}
@@ -134,7 +134,7 @@ module _ (w : ComponentWorld) (ok : IsEncodable w) (u : UserModule) (user : IsUs
         lacks_memory (task_return_set w.resolve.types f) memory ≡ false → lacks_realloc (task_return_set w.resolve.types f) None ≡ false → NameOptions w ds written (lower_options w (user_of u.which) i.role)
     return_named ds memory written before there same no_m no_r =
         let set : ℕ = task_return_set w.resolve.types f in
-        let own = lower_realloc w (user_of u.which) in
+        let own = role_realloc w (user_of u.which) i.role in
         let listed : AreListed w ds set memory None own = record { memory_is = λ needed. by memory (there needed) before; realloc_is = λ needed. absurd (true≢false (sym needed ∙ no_realloc_returned w.resolve.types f)) } in
         let all : NameOptions w ds written (options_in set own (Some encoding)) = named_for w ds set memory None own encoding written listed same no_m no_r in
         let of_set : NameOptions w ds written (options_in (lower_needs w i.role) own (Some encoding)) = subst (λ n. NameOptions w ds written (options_in n own (Some encoding))) (sym needs_same) all in

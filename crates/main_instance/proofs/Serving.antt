@@ -19,7 +19,7 @@ use Rattle.comp_builder.specs.Built.{Built}
 use Rattle.comp_bytes.specs.ItemIndices.{IsAt}
 use Rattle.comp_roles.specs.CoreImports.{CoreImport, imports_from, fields_of}
 use Rattle.comp_options.specs.Options.{needs}
-use Rattle.comp_links.specs.Links.{lower_needs, lower_realloc}
+use Rattle.comp_links.specs.Links.{lower_needs, role_realloc, is_always_shimmed}
 use Rattle.comp_worlds.specs.Encodable.{IsEncodable}
 use Rattle.comp_worlds.specs.Offered.{shared_memory}
 use Rattle.comp_worlds.specs.Uses.{imports_of}
@@ -44,7 +44,7 @@ use Rattle.comp_links.specs.Lists.{required_functions}
 use Rattle.comp_links.specs.Modules.{WorldModule, UserImport, import_groups, imports_of_module, module_found, user_imports, user_modules}
 use Rattle.comp_links.specs.Targets.{UserModule as User}
 use Rattle.comp_terms.specs.Planned.{IsEntryFor, IsArgumentFor}
-use Rattle.comp_links.specs.Roles.{encoding_in, field_path, import_encoding, needs_encoding, is_always_shimmed, interface_function, is_named, is_used, is_used_of, is_main_memory}
+use Rattle.comp_links.specs.Roles.{encoding_in, field_path, import_encoding, needs_encoding, interface_function, is_named, is_used, is_used_of, is_main_memory}
 use Rattle.comp_links.specs.Supplied.{IsSuppliedImport}
 use Rattle.comp_terms.specs.Rules.{Grows}
 use Rattle.interface_needs.proofs.Lists.{contains_one, contains_none, contains_cons, contains_first, contains_later, contains_flat, IsInOne, flat_contains, passes_any, all_both}
@@ -71,7 +71,7 @@ module _ (w : ComponentWorld) (of : User) (m : ValidatedModule) (there : module_
   pub encoding_found : (role : Import) (o : Option StringEncoding) → encoding_in role m ≡ o → import_encoding w of role ≡ o
   encoding_found role o e = ap (option_and_then (encoding_in role)) there ∙ e
 
-  pub has_encoding : (role : Import) (encoding : StringEncoding) → encoding_in role m ≡ Some encoding → (IsTrue (is_main_memory role) → ⊥) → (IsSome (shared_memory w) → is_always_shimmed role ≡ false → IsTrue (needs (lower_needs w role) 2) → IsSome (lower_realloc w of)) → IsSuppliedImport w of role
+  pub has_encoding : (role : Import) (encoding : StringEncoding) → encoding_in role m ≡ Some encoding → (IsTrue (is_main_memory role) → ⊥) → (IsSome (shared_memory w) → is_always_shimmed w role ≡ false → IsTrue (needs (lower_needs w role) 2) → IsSome (role_realloc w of role)) → IsSuppliedImport w of role
   has_encoding role encoding e other realloc = record { encoding = λ needed. ap is_some (encoding_found role (Some encoding) e); memory = λ memory. absurd (other memory); realloc = realloc }
 
   -- what it lacks is a cause

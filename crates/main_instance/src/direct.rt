@@ -8,7 +8,7 @@
 ghost use Rattle.std.specs.Prelude.{◌≡◌, [], ◌∷◌, Some, IfOk, IfErr, OnOk, IsSome, IsTrue};
 ghost use Rattle.std.specs.Option.{option_copied, option_map};
 ghost use Rattle.comp_items.specs.Items.{Extends};
-ghost use Rattle.comp_links.specs.Links.{lower_needs, lower_options, lower_realloc};
+ghost use Rattle.comp_links.specs.Links.{lower_needs, lower_options, lower_realloc, role_realloc};
 ghost use Rattle.comp_links.specs.Modules.{module_found};
 ghost use Rattle.comp_options.specs.Options.{needs, realloc_bit};
 ghost use Rattle.comp_terms.specs.Rules.{Grows};
@@ -180,7 +180,8 @@ impl ImportSources<'_> {
             call.entry.import.now)) }
         ensures realloc { OnOk result (IsTrue
             (needs (lower_needs root.old.world.now call.entry.import.now) realloc_bit)
-            → IsSome (lower_realloc root.old.world.now (user_of self.now.user.which))) }
+            → IsSome (role_realloc root.old.world.now (user_of self.now.user.which)
+            call.entry.import.now)) }
         ensures cause { IfErr result (IsCauseAmong root.old.world.now (record {
           of = user_of
               self.now.user.which;

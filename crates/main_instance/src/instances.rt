@@ -1,16 +1,17 @@
 //! The instance of a user module: each of its imports is given what its role needs.
 #![tactic(auto, using(crate::proofs::Growth::growing))]
 
-ghost use Rattle.std.specs.Prelude.{◌≡◌, [], ◌∷◌, None, IfOk, IfErr, OnOk, IsSome, IsTrue, map, Contains};
+ghost use Rattle.std.specs.Prelude.{◌≡◌, [], ◌∷◌, Some, None, IfOk, IfErr, OnOk, IsSome, IsTrue, map, Contains};
 ghost use Rattle.std.specs.List.{AllZip, IsDistinct};
 ghost use Rattle.std.specs.Option.{option_copied};
 ghost use Rattle.std.specs.Str.{bytes_eq};
 ghost use Rattle.built_ins.specs.BuiltIns.{plain_intrinsic};
+ghost use Rattle.built_ins.specs.Payloads.{called_payload};
 ghost use Rattle.comp_bytes.specs.Spaces.{kind_space};
 ghost use Rattle.comp_bytes.specs.declared.space.Space.TheVariants.{CoreFunc};
 ghost use Rattle.comp_items.specs.Items.{Extends};
 ghost use Rattle.comp_links.specs.Supplied.{IsSuppliedImport};
-ghost use Rattle.comp_links.specs.Links.{lower_needs, lower_options, lower_realloc};
+ghost use Rattle.comp_links.specs.Links.{lower_needs, lower_options, role_realloc};
 ghost use Rattle.comp_options.specs.Options.{needs, realloc_bit};
 ghost use Rattle.comp_links.specs.Targets.{OfRoot, OfInterface, Drop, Lowered, OfResource};
 ghost use Rattle.comp_lists.specs.Found.{found};
@@ -21,6 +22,7 @@ ghost use Rattle.core_options.specs.Causes.{IsCause, IsCauseAmong};
 ghost use Rattle.main_instance.specs.Calls.{import_at, lowering_kind};
 ghost use Rattle.main_instance.specs.Direct.{IsDirectCall, IsLoweringWith};
 ghost use Rattle.core_options.specs.MainOptions.{user_of};
+ghost use Rattle.shim_plan.specs.Needed as plans;
 ghost use Rattle.shim_targets.specs.ShimTargets.{which_of};
 ghost use Rattle.main_instance.specs.Sources.{imports_by, AreSources, IsShimAlias, IsUsedOfInterface};
 ghost use Rattle.root_imports.specs.Keeping.{RootKept};
@@ -35,14 +37,14 @@ use crate::calls::{CorePlace, import_encoding, kind_of_call};
 use crate::direct::DirectCall;
 use crate::returns::ReturnedFunction;
 use crate::shims::shim_alias;
-use built_ins::plain_intrinsic;
+use built_ins::{called_payload, plain_intrinsic};
 use byte_encoding::BuildFault;
 use comp_bytes::{CoreArgument, CoreInlineExport};
 use comp_lists::{Keyed, Seq, Text};
-use comp_worlds::{ComponentWorld, Import, ImportInstance};
-use core_options::{StateFault, UserModule};
+use comp_worlds::{ComponentWorld, Import, ImportInstance, PayloadInfo};
+use core_options::{StateFault, UserModule, payload_function};
 use root_imports::RootScope;
-use shim_plan::{MemoryFunction, ShimKind, Shims};
+use shim_plan::{MemoryFunction, ShimKind, Shims, accessed_of};
 use standard_kinds::{ExportKind, StringEncoding};
 use wit_data::{AbiVariant, InterfaceId, TypeId, WorldKey};
 
@@ -90,7 +92,8 @@ impl ImportSources<'_> {
             (user_of self.now.user.which) call.entry.import.now)) }
         ensures realloc { OnOk result (IsTrue
             (needs (lower_needs root.old.world.now call.entry.import.now) realloc_bit)
-            → IsSome (lower_realloc root.old.world.now (user_of self.now.user.which))) }
+            → IsSome (role_realloc root.old.world.now (user_of self.now.user.which)
+            call.entry.import.now)) }
         ensures cause { IfErr result (IsCauseAmong root.old.world.now (record {
           of = user_of
               self.now.user.which;
@@ -127,7 +130,8 @@ impl ImportSources<'_> {
             (user_of self.now.user.which) call.entry.import.now))) }
         ensures realloc { OnOk result (IsTrue
             (needs (lower_needs root.old.world.now call.entry.import.now) realloc_bit)
-            → IsSome (lower_realloc root.old.world.now (user_of self.now.user.which))) }
+            → IsSome (role_realloc root.old.world.now (user_of self.now.user.which)
+            call.entry.import.now)) }
         ensures cause { IfErr result (IsCauseAmong root.old.world.now (record {
           of = user_of
               self.now.user.which;
@@ -163,7 +167,8 @@ impl ImportSources<'_> {
             root.old.world.now (user_of self.now.user.which) call.entry.import.now))) }
         ensures realloc { OnOk result (IsTrue
             (needs (lower_needs root.old.world.now call.entry.import.now) realloc_bit)
-            → IsSome (lower_realloc root.old.world.now (user_of self.now.user.which))) }
+            → IsSome (role_realloc root.old.world.now (user_of self.now.user.which)
+            call.entry.import.now)) }
         ensures cause { IfErr result (IsCauseAmong root.old.world.now (record {
           of = user_of
               self.now.user.which;
@@ -348,7 +353,8 @@ impl ImportSources<'_> {
         }
     }
 
-    /// What an import is given that is no built-in function without operands.
+    /// What an import is given that is no built-in function without operands, no function of a stream
+    /// or a future, no wait and no function of error contexts.
     ///
     /// `E7` where the import is main's memory and main has none, `E8` where the function of the
     /// import is lowered with a realloc and there is none for the module, `E9` where it has no
@@ -360,19 +366,21 @@ impl ImportSources<'_> {
         field: &Text,
         import: &Import,
     ) -> Result<(ExportKind, u32), StateFault>
-        requires sources { AreSources root.old.world.now self.now root.old.met root.old.items.defs root.old.maps
-            root.old.instances }
+        requires sources { AreSources root.old.world.now self.now root.old.met root.old.items.defs
+            root.old.maps root.old.instances }
         requires present { Contains (imports_of self.now.user.found.now)
             (record { module_name = «module».now; field = field.now; role = import.now }) }
         requires linked { plain_intrinsic root.old.world.now.can_use_context_slot_1 import.now
             ≡ None }
+        requires typed { called_payload import.now ≡ None }
+        requires other { plans.memory_function import.now ≡ None }
         ensures kept { RootKept root.old.world.now root.old root.new }
-        ensures grows { OnOk result (Grows root.old.world.now root.old.items.defs root.new.items.defs
-            []) }
-        ensures made { IfOk result (λ item. IsGivenFor root.old.world.now (user_of self.now.user.which)
-            root.new.items.defs (kind_space item.0) item.1 import.now) }
-        ensures supplied { OnOk result (IsSuppliedImport root.old.world.now (user_of self.now.user.which)
-            import.now) }
+        ensures grows { OnOk result
+            (Grows root.old.world.now root.old.items.defs root.new.items.defs []) }
+        ensures made { IfOk result (λ item. IsGivenFor root.old.world.now
+            (user_of self.now.user.which) root.new.items.defs (kind_space item.0) item.1 import.now) }
+        ensures supplied { OnOk result
+            (IsSuppliedImport root.old.world.now (user_of self.now.user.which) import.now) }
         ensures cause { IfErr result (IsCauseAmong root.old.world.now (record {
           of = user_of self.now.user.which;
           core = record { module_name = «module».now; field = field.now; role = import.now };
@@ -431,6 +439,50 @@ impl ImportSources<'_> {
                 let index = self.give_return(root, place, import, returned)?;
                 Ok((ExportKind::Func, index))
             }
+            Import::TlsBaseGet { .. } => {
+                let index = self.cell_getter(root)?;
+                Ok((ExportKind::Func, index))
+            }
+            Import::TlsBaseSet { .. } => {
+                let index = self.cell_setter(root)?;
+                Ok((ExportKind::Func, index))
+            }
+            _ => unreachable!(),
+        }
+    }
+
+    /// What an import is given that is no built-in function without operands, and no function of a stream
+    /// or a future: a wait or a function of error contexts has its shim, or is given as itself.
+    ///
+    /// `E7`, `E8` and `E9` as in [`ImportSources::materialize_import`].
+    fn link_function(
+        &self,
+        root: &mut RootScope<'_, ComponentWorld>,
+        module: &Text,
+        field: &Text,
+        import: &Import,
+    ) -> Result<(ExportKind, u32), StateFault>
+        requires sources { AreSources root.old.world.now self.now root.old.met root.old.items.defs
+            root.old.maps root.old.instances }
+        requires present { Contains (imports_of self.now.user.found.now)
+            (record { module_name = «module».now; field = field.now; role = import.now }) }
+        requires linked { plain_intrinsic root.old.world.now.can_use_context_slot_1 import.now
+            ≡ None }
+        requires typed { called_payload import.now ≡ None }
+        ensures kept { RootKept root.old.world.now root.old root.new }
+        ensures grows { OnOk result
+            (Grows root.old.world.now root.old.items.defs root.new.items.defs []) }
+        ensures made { IfOk result (λ item. IsGivenFor root.old.world.now
+            (user_of self.now.user.which) root.new.items.defs (kind_space item.0) item.1 import.now) }
+        ensures supplied { OnOk result
+            (IsSuppliedImport root.old.world.now (user_of self.now.user.which) import.now) }
+        ensures cause { IfErr result (IsCauseAmong root.old.world.now (record {
+          of = user_of self.now.user.which;
+          core = record { module_name = «module».now; field = field.now; role = import.now };
+        } ∷ []) []) }
+    {
+        let place = CorePlace { module, field };
+        match import {
             Import::WaitableSetWait => {
                 let index = self.give_function(root, place, import, MemoryFunction::Wait)?;
                 Ok((ExportKind::Func, index))
@@ -453,15 +505,83 @@ impl ImportSources<'_> {
                 let index = self.shim_of_function(root, place, import, function)?;
                 Ok((ExportKind::Func, index))
             }
-            Import::TlsBaseGet { .. } => {
-                let index = self.cell_getter(root)?;
+            _ => self.link_import(root, module, field, import),
+        }
+    }
+
+    /// What an import of a function of a stream or a future is given: a read or a write has its shim, or
+    /// is given as itself, and another one is given as itself, of the type that it has.
+    ///
+    /// `E7`, `E8` and `E9` as in [`ImportSources::materialize_import`].
+    fn link_payload(
+        &self,
+        root: &mut RootScope<'_, ComponentWorld>,
+        place: CorePlace<'_>,
+        import: &Import,
+        info: &PayloadInfo,
+    ) -> Result<u32, StateFault>
+        requires sources { AreSources root.old.world.now self.now root.old.met root.old.items.defs
+            root.old.maps root.old.instances }
+        requires present { Contains (imports_of self.now.user.found.now)
+            (import_at place import.now) }
+        requires payload { called_payload import.now ≡ Some info.now }
+        ensures kept { RootKept root.old.world.now root.old root.new }
+        ensures grows { OnOk result
+            (Grows root.old.world.now root.old.items.defs root.new.items.defs []) }
+        ensures given { IfOk result (λ index. IsGivenFor root.old.world.now
+            (user_of self.now.user.which) root.new.items.defs CoreFunc index import.now) }
+        ensures supplied { OnOk result
+            (IsSuppliedImport root.old.world.now (user_of self.now.user.which) import.now) }
+        ensures cause { IfErr result (IsCauseAmong root.old.world.now (record {
+          of = user_of self.now.user.which;
+          core = import_at place.entry import.now;
+        } ∷ []) []) }
+    {
+        match accessed_of(import) {
+            Some(access) => self.give_access(root, place, import, access),
+            None => {
+                let index = payload_function(root, import, info)?;
+                Ok(index)
+            }
+        }
+    }
+
+    /// What an import is given that is no built-in function without operands: one of a stream or a
+    /// future, or else another.
+    ///
+    /// `E7`, `E8` and `E9` as in [`ImportSources::materialize_import`].
+    fn link_built_in(
+        &self,
+        root: &mut RootScope<'_, ComponentWorld>,
+        module: &Text,
+        field: &Text,
+        import: &Import,
+    ) -> Result<(ExportKind, u32), StateFault>
+        requires sources { AreSources root.old.world.now self.now root.old.met root.old.items.defs
+            root.old.maps root.old.instances }
+        requires present { Contains (imports_of self.now.user.found.now)
+            (record { module_name = «module».now; field = field.now; role = import.now }) }
+        requires linked { plain_intrinsic root.old.world.now.can_use_context_slot_1 import.now
+            ≡ None }
+        ensures kept { RootKept root.old.world.now root.old root.new }
+        ensures grows { OnOk result
+            (Grows root.old.world.now root.old.items.defs root.new.items.defs []) }
+        ensures made { IfOk result (λ item. IsGivenFor root.old.world.now
+            (user_of self.now.user.which) root.new.items.defs (kind_space item.0) item.1 import.now) }
+        ensures supplied { OnOk result
+            (IsSuppliedImport root.old.world.now (user_of self.now.user.which) import.now) }
+        ensures cause { IfErr result (IsCauseAmong root.old.world.now (record {
+          of = user_of self.now.user.which;
+          core = record { module_name = «module».now; field = field.now; role = import.now };
+        } ∷ []) []) }
+    {
+        match called_payload(import) {
+            Some(info) => {
+                let place = CorePlace { module, field };
+                let index = self.link_payload(root, place, import, info)?;
                 Ok((ExportKind::Func, index))
             }
-            Import::TlsBaseSet { .. } => {
-                let index = self.cell_setter(root)?;
-                Ok((ExportKind::Func, index))
-            }
-            _ => unreachable!(),
+            None => self.link_function(root, module, field, import),
         }
     }
 
@@ -477,17 +597,17 @@ impl ImportSources<'_> {
         field: &Text,
         import: &Import,
     ) -> Result<(ExportKind, u32), StateFault>
-        requires sources { AreSources root.old.world.now self.now root.old.met root.old.items.defs root.old.maps
-            root.old.instances }
+        requires sources { AreSources root.old.world.now self.now root.old.met root.old.items.defs
+            root.old.maps root.old.instances }
         requires present { Contains (imports_of self.now.user.found.now)
             (record { module_name = «module».now; field = field.now; role = import.now }) }
         ensures kept { RootKept root.old.world.now root.old root.new }
-        ensures grows { OnOk result (Grows root.old.world.now root.old.items.defs root.new.items.defs
-            []) }
-        ensures made { IfOk result (λ item. IsGivenFor root.old.world.now (user_of self.now.user.which)
-            root.new.items.defs (kind_space item.0) item.1 import.now) }
-        ensures supplied { OnOk result (IsSuppliedImport root.old.world.now (user_of self.now.user.which)
-            import.now) }
+        ensures grows { OnOk result
+            (Grows root.old.world.now root.old.items.defs root.new.items.defs []) }
+        ensures made { IfOk result (λ item. IsGivenFor root.old.world.now
+            (user_of self.now.user.which) root.new.items.defs (kind_space item.0) item.1 import.now) }
+        ensures supplied { OnOk result
+            (IsSuppliedImport root.old.world.now (user_of self.now.user.which) import.now) }
         ensures cause { IfErr result (IsCauseAmong root.old.world.now (record {
           of = user_of self.now.user.which;
           core = record { module_name = «module».now; field = field.now; role = import.now };
@@ -498,7 +618,7 @@ impl ImportSources<'_> {
                 let index = root.items.built_in(intrinsic)?;
                 Ok((ExportKind::Func, index))
             }
-            None => self.link_import(root, module, field, import),
+            None => self.link_built_in(root, module, field, import),
         }
     }
 

@@ -6,7 +6,7 @@
 ghost use Rattle.std.specs.Prelude.{◌≡◌, [], ◌∷◌, false, None, Some, IfOk, IfErr, OnOk, IsSome, Contains};
 ghost use Rattle.comp_bytes.specs.declared.space.Space.TheVariants.{CoreFunc};
 ghost use Rattle.comp_items.specs.Items.{Extends};
-ghost use Rattle.comp_links.specs.Roles.{is_always_shimmed};
+ghost use Rattle.comp_links.specs.Links.{is_always_shimmed};
 ghost use Rattle.comp_links.specs.Supplied.{IsSuppliedImport};
 ghost use Rattle.comp_options.specs.Options.{needs, realloc_bit};
 ghost use Rattle.comp_terms.specs.Planned.{IsGivenFor};
@@ -83,7 +83,7 @@ impl ImportSources<'_> {
         requires role { plans.memory_function import.now ≡ Some function }
         requires present { Contains (imports_of self.now.user.found.now)
             (import_at place import.now) }
-        requires planned { is_always_shimmed import.now ≡ false
+        requires planned { is_always_shimmed root.old.world.now import.now ≡ false
             → shared_memory root.old.world.now ≡ None }
         ensures same { root.new ≡ record root.old { items = root.new.items } }
         ensures extends { Extends root.old.items root.new.items }

@@ -8,6 +8,7 @@ use Rattle.core_sections.specs.declared.entries.CoreImport.{CoreImport}
 use Rattle.core_sections.specs.declared.entries.EntityType.{EntityType}
 use Rattle.core_sections.specs.declared.entries.FuncType.{FuncType}
 use Rattle.wit_data.specs.Keys.{is_same_key}
+use Rattle.wit_data.specs.Sound.{IsSound}
 use Rattle.wit_data.specs.declared.functions.AbiVariant.{AbiVariant}
 use Rattle.wit_data.specs.declared.functions.Function.{Function}
 use Rattle.wit_data.specs.declared.ids.InterfaceId.{InterfaceId}
@@ -37,17 +38,19 @@ use Rattle.record_resolve.specs.declared.resolving.Resolved.{Resolved}
 use Rattle.record_role_targets.specs.declared.sides.Side.TheVariants as sides
 use Rattle.record_role_targets.specs.Sides.{interface_of, items_in}
 use Rattle.record_role_targets.specs.Keys.{interface_key}
-use Rattle.record_role_targets.specs.Positions.{at_root, in_interface, position_of, function_at, function_position, resource_of}
+use Rattle.record_role_targets.specs.Positions.{at_root, in_interface, position_of, function_at_key, function_at, function_position, resource_of}
 use Rattle.record_role_targets.specs.Payloads.{resolved_payload, payload_import}
 use Rattle.record_role_targets.specs.Imports.{memory_type, function_type, called, imported_drop, exported_drop, exported_rep, exported_new, task_return, intrinsic, resolved_import}
 use Rattle.record_role_targets.specs.Named.{HasNamed}
 use Rattle.record_role_targets.specs.Targets.{WorldRoles, resolved_role}
-use Rattle.record_role_targets.proofs.Existence.{at_key}
-use Rattle.world_values.specs.Mentions.{HasReturned, interface_in}
+use Rattle.record_role_targets.proofs.Existence.{IfThere, at_key}
+use Rattle.record_role_targets.proofs.Reaching.{IsMet, payload_is_met}
+use Rattle.world_values.specs.Items.{function_in, root_function_at}
+use Rattle.world_values.specs.Mentions.{HasReturned, interface_in, payload_in}
 use Rattle.record_core_types.specs.Asked.{called as called_as, imported_function, imported_interface, function_of}
 use Rattle.record_core_types.specs.Fitting.{is_asked, function_type as type_of_function, fits_import}
 use Rattle.record_core_types.specs.Offered.{extern_type}
-use Rattle.record_core_types.specs.Guarantees.{IsCalled}
+use Rattle.record_core_types.specs.Guarantees.{exported_in, IsPayloadMet, IsMetIf, IsCalled}
 use Rattle.record_faults.specs.declared.fault.Failure.{Failure}
 use Rattle.record_faults.specs.Faults.{◌>>=◌, Gives}
 use Rattle.record_faults.proofs.Chains.{bind_ok, got, passed}
@@ -170,7 +173,7 @@ module _ (r : Resolved) where
   abbrev IsOwn : Import → Type 0
   IsOwn (imports.WorldFunc (keys.Name text) function abi) = function ≡ text
   IsOwn (imports.InterfaceFunc key id function abi) = imported_interface r.resolve world_id key ≡ Some id
-  IsOwn import = Unit {0}
+  IsOwn import = IsMetIf r.resolve world_id (payload_in import)
 
   mapped : {A : Type 0} (f : A → Import) (o : Option A) → ((x : A) → IsOwn (f x)) → IfSome (option_map f o) IsOwn
   mapped f None h = tt
@@ -205,21 +208,37 @@ module _ (r : Resolved) where
   chained f of None h = tt
   chained f of (Some x) h = mapped (f x) (of x) (h x)
 
-  payload_own : (kind : PayloadKind) (operation : PayloadOperation) (is_async : Bool) (p : PayloadInfo) → IsOwn (payload_import kind operation is_async p)
-  payload_own payload_kinds.Stream operations.New a p = tt
-  payload_own payload_kinds.Stream operations.Read a p = tt
-  payload_own payload_kinds.Stream operations.Write a p = tt
-  payload_own payload_kinds.Stream operations.CancelRead a p = tt
-  payload_own payload_kinds.Stream operations.CancelWrite a p = tt
-  payload_own payload_kinds.Stream operations.DropReadable a p = tt
-  payload_own payload_kinds.Stream operations.DropWritable a p = tt
-  payload_own payload_kinds.Future operations.New a p = tt
-  payload_own payload_kinds.Future operations.Read a p = tt
-  payload_own payload_kinds.Future operations.Write a p = tt
-  payload_own payload_kinds.Future operations.CancelRead a p = tt
-  payload_own payload_kinds.Future operations.CancelWrite a p = tt
-  payload_own payload_kinds.Future operations.DropReadable a p = tt
-  payload_own payload_kinds.Future operations.DropWritable a p = tt
+  -- a function is looked up among the exports as in the crate below
+  same_function : (key : WorldKey) (interface : Option InterfaceId) (name : List ℕ) → function_at_key sides.Exported r key interface name ≡ exported_in r.resolve world_id key interface name
+  same_function key (Some id) name = refl
+  same_function key None name = by (slice_get r.resolve.worlds 0)
+    where
+      by : (o : Option World) → option_and_then function_in (lookup (is_same_key key) (option_map_or (items_in sides.Exported) o [])) ≡ option_and_then (λ w. root_function_at w.exports key) o
+      by None = refl
+      by (Some w) = refl
+
+  met_in_world : (p : PayloadInfo) → IsMet r p → IsPayloadMet r.resolve world_id p
+  met_in_world p h = record { reached = λ key id name f unimported keyed typed there. h.reached key id name f unimported keyed typed (same_function key p.interface name ∙ there) }
+
+  payload_own : (kind : PayloadKind) (operation : PayloadOperation) (is_async : Bool) (p : PayloadInfo) → IsPayloadMet r.resolve world_id p → IsOwn (payload_import kind operation is_async p)
+  payload_own payload_kinds.Stream operations.New a p h = h
+  payload_own payload_kinds.Stream operations.Read a p h = h
+  payload_own payload_kinds.Stream operations.Write a p h = h
+  payload_own payload_kinds.Stream operations.CancelRead a p h = h
+  payload_own payload_kinds.Stream operations.CancelWrite a p h = h
+  payload_own payload_kinds.Stream operations.DropReadable a p h = h
+  payload_own payload_kinds.Stream operations.DropWritable a p h = h
+  payload_own payload_kinds.Future operations.New a p h = h
+  payload_own payload_kinds.Future operations.Read a p h = h
+  payload_own payload_kinds.Future operations.Write a p h = h
+  payload_own payload_kinds.Future operations.CancelRead a p h = h
+  payload_own payload_kinds.Future operations.CancelWrite a p h = h
+  payload_own payload_kinds.Future operations.DropReadable a p h = h
+  payload_own payload_kinds.Future operations.DropWritable a p h = h
+
+  payloads_own : (kind : PayloadKind) (operation : PayloadOperation) (is_async : Bool) (o : Option PayloadInfo) → IfThere (IsMet r) o → IfSome (option_map (payload_import kind operation is_async) o) IsOwn
+  payloads_own kind operation is_async None h = tt
+  payloads_own kind operation is_async (Some p) h = payload_own kind operation is_async p (met_in_world p h)
 
   intrinsic_own : (i : Intrinsic) → IsOwn (intrinsic i)
   intrinsic_own intrinsics.TaskCancel = tt
@@ -233,25 +252,25 @@ module _ (r : Resolved) where
   intrinsic_own intrinsics.SubtaskDrop = tt
   intrinsic_own intrinsics.ErrorContextDrop = tt
 
-  role_own : (field : List ℕ) (role : ImportRole) (ty : Option ExternType) → IfSome (resolved_import r field role ty) IsOwn
-  role_own field (roles.Function owner name abi) ty = function_own owner name abi
-  role_own field (roles.ImportedDrop t) ty = mapped imported_drop (resource_of sides.Imported r t) (λ x. tt)
-  role_own field (roles.ExportedDrop t) ty = mapped exported_drop (resource_of sides.Exported r t) (λ x. tt)
-  role_own field (roles.ExportedRep t) ty = mapped exported_rep (resource_of sides.Exported r t) (λ x. tt)
-  role_own field (roles.ExportedNew t) ty = mapped exported_new (resource_of sides.Exported r t) (λ x. tt)
-  role_own field (roles.TaskReturn owner name) ty = chained task_return (λ p. function_at sides.Exported r p name) (position_of sides.Exported r owner name) (λ p f. tt)
-  role_own field (roles.Payload kind operation payload is_async) ty = mapped (payload_import kind operation is_async) (resolved_payload r field kind payload) (payload_own kind operation is_async)
-  role_own field roles.Memory ty = mapped imports.MainModuleMemory (memory_type ty) (λ x. tt)
-  role_own field (roles.MainExport name kind) ty = tt
-  role_own field (roles.AdapterExport adapter name) ty = mapped (imports.AdapterExport adapter name) (function_type ty) (λ x. tt)
-  role_own field (roles.Intrinsic i) ty = intrinsic_own i
-  role_own field (roles.SubtaskCancel is_async) ty = tt
-  role_own field (roles.ErrorContextNew encoding) ty = tt
-  role_own field (roles.ErrorContextDebugMessage encoding) ty = tt
-  role_own field (roles.ContextGet word slot) ty = tt
-  role_own field (roles.ContextSet word slot) ty = tt
-  role_own field (roles.TlsGet word) ty = tt
-  role_own field (roles.TlsSet word) ty = tt
+  role_own : IsSound r.resolve → (field : List ℕ) (role : ImportRole) (ty : Option ExternType) → IfSome (resolved_import r field role ty) IsOwn
+  role_own sound field (roles.Function owner name abi) ty = function_own owner name abi
+  role_own sound field (roles.ImportedDrop t) ty = mapped imported_drop (resource_of sides.Imported r t) (λ x. tt)
+  role_own sound field (roles.ExportedDrop t) ty = mapped exported_drop (resource_of sides.Exported r t) (λ x. tt)
+  role_own sound field (roles.ExportedRep t) ty = mapped exported_rep (resource_of sides.Exported r t) (λ x. tt)
+  role_own sound field (roles.ExportedNew t) ty = mapped exported_new (resource_of sides.Exported r t) (λ x. tt)
+  role_own sound field (roles.TaskReturn owner name) ty = chained task_return (λ p. function_at sides.Exported r p name) (position_of sides.Exported r owner name) (λ p f. tt)
+  role_own sound field (roles.Payload kind operation payload is_async) ty = payloads_own kind operation is_async (resolved_payload r field kind payload) (payload_is_met r field kind payload sound)
+  role_own sound field roles.Memory ty = mapped imports.MainModuleMemory (memory_type ty) (λ x. tt)
+  role_own sound field (roles.MainExport name kind) ty = tt
+  role_own sound field (roles.AdapterExport adapter name) ty = mapped (imports.AdapterExport adapter name) (function_type ty) (λ x. tt)
+  role_own sound field (roles.Intrinsic i) ty = intrinsic_own i
+  role_own sound field (roles.SubtaskCancel is_async) ty = tt
+  role_own sound field (roles.ErrorContextNew encoding) ty = tt
+  role_own sound field (roles.ErrorContextDebugMessage encoding) ty = tt
+  role_own sound field (roles.ContextGet word slot) ty = tt
+  role_own sound field (roles.ContextSet word slot) ty = tt
+  role_own sound field (roles.TlsGet word) ty = tt
+  role_own sound field (roles.TlsSet word) ty = tt
 
 -- ---- functions are the world's
 
@@ -265,19 +284,19 @@ is_called r core (imports.WorldFunc (keys.Name text) function abi) entity own fi
     (own, asked_there (called_as r.resolve abi) (imported_function r.resolve world_id (keys.Name text)) (type_of_function core entity) fits)
 is_called r core (imports.InterfaceFunc key id function abi) entity own fits =
     (own, asked_there (called_as r.resolve abi) (function_of r.resolve id function) (type_of_function core entity) fits)
-is_called r core import entity own fits = tt
+is_called r core import entity own fits = own
 
-either_called : (r : Resolved) (others : OtherModules) (table : Roles) (core : CoreModule) (i : CoreImport) (import : Import) (ty : ExternType) (argument : Option Instance) → PassesEither r others table core i import ty argument
+either_called : (r : Resolved) → IsSound r.resolve → (others : OtherModules) (table : Roles) (core : CoreModule) (i : CoreImport) (import : Import) (ty : ExternType) (argument : Option Instance) → PassesEither r others table core i import ty argument
     → IsCalled r.resolve world_id import
-either_called r others table core i import ty None p = is_called r core import i.entity (subst (λ o. IfSome o (IsOwn r)) p.means (role_own r i.field p.role (Some ty))) p.fits
-either_called r others table core i import ty (Some instance) p = subst (IsCalled r.resolve world_id) (sym p.is) tt
+either_called r sound others table core i import ty None p = is_called r core import i.entity (subst (λ o. IfSome o (IsOwn r)) p.means (role_own r sound i.field p.role (Some ty))) p.fits
+either_called r sound others table core i import ty (Some instance) p = subst (IsCalled r.resolve world_id) (sym p.is) tt
 
 -- an import that was read is checked
-pub is_checked : (r : Resolved) (others : OtherModules) (arguments : Arguments) (table : Roles) (core : CoreModule) (i : CoreImport) (import : Import) → import_of r others arguments table core i ≡ Ok import → HasNamed r.resolve import
+pub is_checked : (r : Resolved) (others : OtherModules) (arguments : Arguments) (table : Roles) (core : CoreModule) (i : CoreImport) (import : Import) → import_of r others arguments table core i ≡ Ok import → HasNamed r.resolve import → IsSound r.resolve
     → IsChecked r.resolve import
-is_checked r others arguments table core i import e named =
+is_checked r others arguments table core i import e named sound =
     let p = import_passes r others arguments table core i import e in
     record {
       present = named.used;
-      called = either_called r others table core i import p.ty (argument_for arguments i.«module») p.given;
+      called = either_called r sound others table core i import p.ty (argument_for arguments i.«module») p.given;
     }

@@ -3,4 +3,5 @@ mod Wanting
 mod Knowing
 pub mod Existence
 mod Naming
+pub mod Reaching
 mod Worked

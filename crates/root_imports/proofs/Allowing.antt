@@ -19,9 +19,9 @@ use Rattle.comp_worlds.specs.Worlds.{IsResource}
 use Rattle.comp_worlds.specs.declared.world.ComponentWorld.{ComponentWorld}
 use Rattle.wit_types.specs.Settings.{Setting}
 use Rattle.wit_types.specs.Allowing.{is_allowed, is_resource, IsDefinedHere, allows_function}
-use Rattle.interface_needs.specs.RootNeeds.{HasWorldTypes, IsInterfaceScope, IsRootScope, IsUsableType, IsWorldType}
-use Rattle.interface_needs.proofs.ExportedInterfaces.{interface_function_allowed, interface_type_allowed}
-use Rattle.interface_needs.proofs.RootItems.{exported_allowed, used_allowed, world_type_defined}
+use Rattle.interface_needs.specs.RootNeeds.{HasWorldTypes, IsInterfaceScope, IsRootScope, IsTypeFor, IsUsableType, IsWorldType}
+use Rattle.interface_needs.proofs.ExportedInterfaces.{interface_function_allowed, interface_home_allowed, interface_type_allowed}
+use Rattle.interface_needs.proofs.RootItems.{exported_allowed, used_allowed, used_type_allowed, world_type_defined}
 use Rattle.interface_needs.proofs.Lists.{contains_none, contains_cons}
 use Rattle.root_imports.specs.Imports.{IsNeededFunction, IsNextId}
 use Rattle.comp_links.specs.Lists.{needed_types}
@@ -100,6 +100,11 @@ module _ (w : ComponentWorld) (ok : IsEncodable w) (met : MetTypes) where
   -- each type may be of which an exported interface may be made
   pub interface_allows : (id : InterfaceId) (t : TypeId) → IsSupplied w met id (suc t.index) → IsUsableType w id t → is_allowed (root_setting w (Some id) met) (Some (Id t)) ≡ true
   interface_allows id t supplied usable = interface_type_allowed w ok id (root_setting w (Some id) met) (suc t.index) (of_interface id (suc t.index) supplied) t usable (inl (omega arith))
+
+  -- a type may be for the root, or for an exported interface
+  pub type_allows : ArePassed w met → (interface : Option InterfaceId) (t : TypeId) → t.index < length types → IsSuppliedFor w met interface → IsTypeFor w interface t → is_allowed (root_setting w interface met) (Some (Id t)) ≡ true
+  type_allows passed None t within supplied h = used_type_allowed w ok s root (all_world_types passed) t within h
+  type_allows passed (Some id) t within supplied h = interface_home_allowed w ok id (root_setting w (Some id) met) (of_interface id (length types) supplied) t h
 
   -- the next type of values is made of what is there
   pub root_defines : (id : TypeId) → is_resource (kind_at types id.index) ≡ false → IsNextId w (next_of met.last) id → IsWorldType w id → IsDefinedHere s (kind_at types id.index)

@@ -16,4 +16,5 @@ pub mod Forgetting
 pub mod ListedTypes
 pub mod Keeping
 pub mod Results
+pub mod PayloadTypes
 pub mod Supplying

@@ -1,10 +1,15 @@
--- Functions that are exported and whose results are returned: the types that they are made of are at
--- hand, once those of all exported interfaces are in the tables.
-use Rattle.std.proofs.Common.{◌≡◌, ◌⊎◌, ℕ, suc, zero, true, false, true≢false, List, [], ◌∷◌, length, take, Option, Some, None, Contains, inl, inr, refl, sym, ap, subst, arith}
+-- Functions that are exported and whose results are returned, and streams and futures of exported
+-- functions: the types that they are made of are at hand, once those of all exported interfaces are in
+-- the tables.
+use Rattle.std.proofs.Common.{◌≡◌, ◌⊎◌, ℕ, suc, zero, Bool, true, false, true≢false, List, [], ◌∷◌, length, take, Option, Some, None, Contains, inl, inr, refl, sym, ap, subst, arith}
 use Rattle.std.specs.List.{AllByRecursion, flat_map, list_any, slice_get}
 use Rattle.comp_lists.proofs.Lists.{AllByRecursion-contains, AllByRecursion-weaker}
 use Rattle.comp_worlds.specs.Encodable.{IsEncodable}
 use Rattle.comp_worlds.specs.ExportOrder.{AreExportsInOrder, exported_before, interface_among, required_interfaces, used_exports}
+use Rattle.comp_roles.specs.declared.payloads.PayloadInfo.{PayloadInfo}
+use Rattle.comp_roles.specs.declared.payloads.PayloadType.{PayloadType}
+use Rattle.comp_roles.specs.declared.payloads.PayloadType.TheVariants as payloads
+use Rattle.comp_worlds.specs.Payloads.{IsExportedPayload, IsPayloadOf, IsTyped, IsPayload, scope_if, type_scope, payload_scope}
 use Rattle.comp_worlds.specs.WorldContents.{exported_item, keys_required, name_at}
 use Rattle.comp_worlds.specs.Worlds.{IsOwnFunction}
 use Rattle.comp_worlds.specs.declared.world.ComponentWorld.{ComponentWorld}
@@ -19,6 +24,7 @@ use Rattle.root_imports.specs.declared.met_types.MetTypes.{MetTypes}
 use Rattle.wit_data.specs.Values.{kind_at}
 use Rattle.wit_data.specs.declared.functions.Function.{Function}
 use Rattle.wit_data.specs.declared.ids.InterfaceId.{InterfaceId}
+use Rattle.wit_data.specs.declared.ids.TypeId.{TypeId}
 use Rattle.wit_data.specs.declared.types.TypeDefKind.{TypeDefKind}
 use Rattle.wit_data.specs.declared.types.TypeDefKind.TheVariants as shapes
 use Rattle.wit_data.specs.declared.worlds.WorldItem.TheVariants as items
@@ -74,6 +80,27 @@ module _ (w : ComponentWorld) (ok : IsEncodable w) (met : MetTypes) (all : AreEx
       let item = item_of (exported_item w key) id h.of in
       supplied_there key id (h.required refl) item
       (contains_flat (λ key. interface_among (exported_item w key)) (keys_required w) key id (h.required refl) (subst (λ o. Contains (interface_among o) id) (sym item) (contains_first id [])))
+
+  -- what the type of a stream or a future is made of
+  own_supplied : (key : Option WorldKey) (interface : Option InterfaceId) (name : List ℕ) (id : TypeId) → IsExportedPayload w key interface name id → IsSuppliedFor w met interface
+  own_supplied None interface name id h = absurd h
+  own_supplied (Some key) None name id h = tt
+  own_supplied (Some key) (Some i) name id h =
+      let item = item_of (exported_item w key) i h.of in
+      supplied_there key i (h.required refl) item
+      (contains_flat (λ key. interface_among (exported_item w key)) (keys_required w) key i (h.required refl) (subst (λ o. Contains (interface_among o) i) (sym item) (contains_first i [])))
+
+  of_supplied : (imported : Bool) (key : Option WorldKey) (interface : Option InterfaceId) (name : List ℕ) (id : TypeId) → IsPayloadOf w imported key interface name id → IsSuppliedFor w met (scope_if imported interface)
+  of_supplied true key interface name id h = tt
+  of_supplied false key interface name id h = own_supplied key interface name id h
+
+  typed_supplied : (p : PayloadInfo) (ty : PayloadType) → IsTyped w p ty → IsSuppliedFor w met (type_scope p ty)
+  typed_supplied p (payloads.Typed id name) h = of_supplied p.imported p.key p.interface name id h.1
+  typed_supplied p payloads.UnitStream h = tt
+  typed_supplied p payloads.UnitFuture h = tt
+
+  pub payload_supplied : (p : PayloadInfo) → IsPayload w p → IsSuppliedFor w met (payload_scope p)
+  payload_supplied p h = typed_supplied p p.ty h
 
 needed_as : (w : ComponentWorld) (interface : Option InterfaceId) (f : Function) → IsExportedFunction w interface f → IsNeededFunction w interface f
 needed_as w None f h = inr h

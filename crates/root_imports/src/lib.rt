@@ -19,7 +19,8 @@
 //! In reading order: `met_types` (which types are at hand), `root_scope` (the scope, and types in
 //! it), `aliases` (aliases of types of interfaces), `world_types` (imports of types), `used` (the
 //! functions that core modules use), `functions` (imports of functions), `exported_types` (the
-//! types of exported interfaces). In `specs/`: `Met` (which types are at hand), `RootScopes` (what
+//! types of exported interfaces), `payload_types` (the types of streams and futures of core imports).
+//! In `specs/`: `Met` (which types are at hand), `RootScopes` (what
 //! the scope takes as given, and how it grows), `Growing` (lists of definitions that grow),
 //! `Interfaces` (what is known of the interfaces that were imported), `Imports` (of the functions,
 //! and of the next import), `Forgetting` (what becomes of the tables when a type is forgotten).
@@ -28,8 +29,8 @@
 //! and [`RootScope::import_functions`] import exactly the types of the world and the functions that
 //! core modules use, in its order; the type of each function, imported or asked for by
 //! [`RootScope::function_type`], denotes the tree of the function in the world; an alias of a type,
-//! and what [`RootScope::dropped_resource`] and [`RootScope::exported_type`] return, denotes the
-//! tree of the type; after [`RootScope::forget_exported_types`] no table has a type of the
+//! and what [`RootScope::dropped_resource`], [`RootScope::exported_type`] and
+//! [`RootScope::payload_type`] return, denotes the tree of the type; after [`RootScope::forget_exported_types`] no table has a type of the
 //! interface, and all else is as it was; definitions grow at their end, and each keeps the rule of
 //! its kind (`Grows` of `comp_terms`). A refusal is out of memory, or a full index space.
 #![tactic(auto)]
@@ -39,6 +40,7 @@ mod exported_types;
 mod functions;
 mod met_types;
 mod own_resources;
+mod payload_types;
 mod root_scope;
 mod used;
 mod world_types;

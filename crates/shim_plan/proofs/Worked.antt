@@ -1,6 +1,6 @@
 -- Worked examples: worlds whose main module imports functions of an interface, and exports a
 -- destructor and a realloc; and one whose main module imports what an adapter exports.
-use Rattle.std.proofs.Common.{◌≡◌, false, List, [], ◌∷◌, map, Some, None, ℕ, refl}
+use Rattle.std.proofs.Common.{◌≡◌, Bool, true, false, List, [], ◌∷◌, map, Some, None, ℕ, refl}
 use Rattle.std.specs.Prelude.{codes}
 use Rattle.std.specs.Fmt.{digits}
 use Rattle.standard_kinds.specs.declared.kinds.StringEncoding.TheVariants as encodings
@@ -23,6 +23,10 @@ use Rattle.comp_roles.specs.declared.imports.ImportInstance.TheVariants as insta
 use Rattle.comp_roles.specs.declared.libraries.MainOrAdapter.{MainOrAdapter}
 use Rattle.comp_roles.specs.declared.libraries.MainOrAdapter.TheVariants as users
 use Rattle.comp_roles.specs.declared.metadata.FunctionKey.{FunctionKey}
+use Rattle.comp_roles.specs.declared.payloads.PayloadFuncKind.{PayloadFuncKind}
+use Rattle.comp_roles.specs.declared.payloads.PayloadFuncKind.TheVariants as ends
+use Rattle.comp_roles.specs.declared.payloads.PayloadInfo.{PayloadInfo}
+use Rattle.comp_roles.specs.declared.payloads.PayloadType.TheVariants as payloads
 use Rattle.standard_kinds.specs.declared.kinds.StringEncoding.{StringEncoding}
 use Rattle.comp_options.specs.declared.required.RequiredOptions.{RequiredOptions}
 use Rattle.comp_worlds.specs.declared.lowerings.Lowering.{Lowering}
@@ -215,6 +219,34 @@ needs_no_encoding = refl
 -- one that takes a reference needs none
 of_reference : (ref : RefType) → needed (adapted (record { params = core.I32 ∷ core.Ref ref ∷ []; results = [] })) users.Main ≡ []
 of_reference ref = refl
+
+-- ---- streams and futures
+
+abbrev a_stream : PayloadInfo
+a_stream = record { name = codes "s"; ty = payloads.UnitStream; key = None; interface = None; imported = true }
+
+abbrev accessing : Import → ComponentWorld
+accessing role = world_with (module_with ((codes "x", role) ∷ []) [] []) []
+
+abbrev shim_of_stream : PayloadFuncKind → Bool → ℕ → NeededShim
+shim_of_stream kind is_async set = record {
+  options = record { 0 = set };
+  debug_name = codes "a:b/i-s";
+  kind = kinds.PayloadFunc users.Main a_stream kind is_async;
+  sig = record { params = I32 ∷ I32 ∷ I32 ∷ []; results = I32 ∷ []; indirect_params = false; retptr = false };
+}
+
+-- a read of a stream needs a memory
+read_is_planned : needed (accessing (imports.StreamRead a_stream false)) users.Main ≡ shim_of_stream ends.StreamRead false 1 ∷ []
+read_is_planned = refl
+
+-- whether it is asynchronous is part of its options and of its kind
+asynchronous_write_is_planned : needed (accessing (imports.StreamWrite a_stream true)) users.Main ≡ shim_of_stream ends.StreamWrite true 9 ∷ []
+asynchronous_write_is_planned = refl
+
+-- what has no options has no shim
+new_stream_is_not_planned : needed (accessing (imports.StreamNew a_stream)) users.Main ≡ []
+new_stream_is_not_planned = refl
 
 -- ---- encodings
 

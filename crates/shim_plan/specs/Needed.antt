@@ -1,11 +1,12 @@
 -- The shims that a module of a world needs, in order: one for each import that is called through a
 -- table, followed by one for the realloc of that call, that returns from a function with a memory,
--- that waits or makes an error context in one, that reads the debug message of one, followed by one
--- for its realloc, or that an adapter exports; and one for each destructor that the module exports
--- (Canonical ABI: `canon lower`, `canon task.return`, `canon waitable-set.{wait,poll}`, `canon
--- error-context.{new,debug-message}`, `realloc`; component model, explainer: the destructor of a
--- resource type). Streams and futures have no rows here.
-use Rattle.std.specs.Prelude.{ℕ, Bool, true, false, ◌&&◌, not, List, [], ◌∷◌, ◌++◌, Option, Some, None, unwrap_or, is_some, if◌then◌else◌, codes}
+-- that waits or makes an error context in one, that reads the debug message of one, or that reads
+-- from a stream or a future or writes to it, each followed by one for its realloc, or that an adapter
+-- exports; and one for each destructor that the module exports (Canonical ABI: `canon lower`, `canon
+-- task.return`, `canon waitable-set.{wait,poll}`, `canon error-context.{new,debug-message}`, `canon
+-- stream.{read,write}`, `canon future.{read,write}`, `realloc`; component model, explainer: the
+-- destructor of a resource type).
+use Rattle.std.specs.Prelude.{ℕ, Bool, true, false, ◌&&◌, ◌||◌, not, List, [], ◌∷◌, ◌++◌, Option, Some, None, unwrap_or, is_some, if◌then◌else◌, codes}
 use Rattle.std.specs.List.{flat_map, AllByRecursion}
 use Rattle.std.specs.Map.{lookup}
 use Rattle.std.specs.Option.{option_and_then}
@@ -20,11 +21,12 @@ use Rattle.wit_data.specs.declared.signatures.WasmSignature.{WasmSignature}
 use Rattle.wit_data.specs.declared.signatures.WasmType.{WasmType}
 use Rattle.wit_data.specs.declared.signatures.WasmType.TheVariants.{I32}
 use Rattle.wit_data.specs.declared.worlds.WorldKey.{WorldKey}
-use Rattle.world_values.specs.Mentions.{HasReturned}
+use Rattle.wit_data.specs.Sound.{HasFunction}
+use Rattle.wit_data.specs.declared.resolve.Resolve.{Resolve}
 use Rattle.comp_roles.specs.CoreImports.{CoreImport}
 use Rattle.comp_roles.specs.Functions.{of_function}
 use Rattle.comp_roles.specs.Lookups.{first_export, is_task_hook}
-use Rattle.comp_roles.specs.Reallocs.{realloc_for, is_import_realloc}
+use Rattle.comp_roles.specs.Reallocs.{realloc_for, is_import_realloc, is_realloc_of}
 use Rattle.comp_roles.specs.declared.exports.Export.{Export}
 use Rattle.comp_roles.specs.declared.exports.Export.TheVariants as exports
 use Rattle.comp_roles.specs.declared.imports.Import.{Import}
@@ -32,6 +34,11 @@ use Rattle.comp_roles.specs.declared.imports.Import.TheVariants as imports
 use Rattle.comp_roles.specs.declared.libraries.MainOrAdapter.{MainOrAdapter}
 use Rattle.comp_roles.specs.declared.libraries.MainOrAdapter.TheVariants as users
 use Rattle.comp_options.specs.Options.{needs, memory_bit, realloc_bit, task_return_set, wait_set, error_new_set, error_message_set}
+use Rattle.comp_roles.specs.declared.payloads.PayloadFuncKind.{PayloadFuncKind}
+use Rattle.comp_roles.specs.declared.payloads.PayloadFuncKind.TheVariants as ends
+use Rattle.comp_roles.specs.declared.payloads.PayloadInfo.{PayloadInfo}
+use Rattle.comp_options.specs.Payloads.{payload_set}
+use Rattle.comp_options.specs.Known.{HasPayload}
 use Rattle.comp_options.specs.declared.required.RequiredOptions.{RequiredOptions}
 use Rattle.comp_worlds.specs.Imported.{is_same_import_key}
 use Rattle.comp_worlds.specs.Lookups.{found_module, resolved_realloc}
@@ -51,6 +58,7 @@ use Rattle.shim_plan.specs.declared.memory_functions.MemoryFunction.TheVariants 
 use Rattle.shim_plan.specs.declared.kinds.ShimKind.{ShimKind}
 use Rattle.shim_plan.specs.declared.kinds.ShimKind.TheVariants as kinds
 use Rattle.shim_plan.specs.declared.needs.NeededShim.{NeededShim}
+use Rattle.shim_plan.specs.declared.payloads.PayloadAccess.{PayloadAccess}
 use Rattle.shim_plan.specs.declared.returns.ReturnedFunction.{ReturnedFunction}
 use Rattle.shim_plan.specs.declared.reallocs.ReallocSite.{ReallocSite}
 use Rattle.shim_plan.specs.declared.reallocs.ReallocSite.TheVariants as sites
@@ -105,9 +113,17 @@ realloc_shims (Some r) = realloc_shim r ∷ []
 abbrev pub import_realloc : ComponentWorld → MainOrAdapter → ValidatedModule → Option (Option (List ℕ) × List ℕ)
 import_realloc w which m = resolved_realloc w (name_of_module which) (realloc_for is_import_realloc m.exports.exports)
 
--- where the options of a call have a realloc, and it needs a shim there
+-- the realloc of reads of a stream or a future of a function that is imported, or exported
+abbrev pub payload_realloc : ComponentWorld → MainOrAdapter → ValidatedModule → (imported : Bool) → Option (Option (List ℕ) × List ℕ)
+payload_realloc w which m imported = resolved_realloc w (name_of_module which) (realloc_for (is_realloc_of imported) m.exports.exports)
+
+-- where the options of a function have a realloc, and it needs a shim there
+abbrev pub realloc_needs_of : ComponentWorld → ReallocSite → RequiredOptions → Option (Option (List ℕ) × List ℕ) → List NeededShim
+realloc_needs_of w site options realloc = if needs options.0 realloc_bit && realloc_needs_shim w site then realloc_shims realloc else []
+
+-- the same of a call
 abbrev pub realloc_needs : ComponentWorld → MainOrAdapter → ValidatedModule → ReallocSite → RequiredOptions → List NeededShim
-realloc_needs w which m site options = if needs options.0 realloc_bit && realloc_needs_shim w site then realloc_shims (import_realloc w which m) else []
+realloc_needs w which m site options = realloc_needs_of w site options (import_realloc w which m)
 
 -- ---- imports
 
@@ -255,13 +271,80 @@ abbrev pub function_needs : ComponentWorld → MainOrAdapter → ValidatedModule
 function_needs w which m function =
     if has_own_shim w function then through_needs w which m function else []
 
+-- ---- reads and writes
+
+-- a read from a stream or a future, or a write to it
+pub record Accessed : Type 0 where
+  pub info : PayloadInfo
+  pub kind : PayloadFuncKind
+  pub is_async : Bool
+
+abbrev pub accessed_payload : PayloadAccess → Accessed
+accessed_payload a = record { info = a.info.now; kind = a.kind; is_async = a.async_ }
+
+abbrev pub access_to : PayloadInfo → PayloadFuncKind → Bool → Accessed
+access_to p kind is_async = record { info = p; kind = kind; is_async = is_async }
+
+abbrev pub accessed_of : Import → Option Accessed
+accessed_of (imports.StreamRead p is_async) = Some (access_to p ends.StreamRead is_async)
+accessed_of (imports.StreamWrite p is_async) = Some (access_to p ends.StreamWrite is_async)
+accessed_of (imports.FutureRead p is_async) = Some (access_to p ends.FutureRead is_async)
+accessed_of (imports.FutureWrite p is_async) = Some (access_to p ends.FutureWrite is_async)
+accessed_of role = None
+
+abbrev pub access_options : ComponentWorld → Accessed → RequiredOptions
+access_options w a = record { 0 = payload_set w.resolve.types a.info.ty a.kind a.is_async }
+
+abbrev pub access_kind : MainOrAdapter → Accessed → ShimKind
+access_kind which a = kinds.PayloadFunc which a.info a.kind a.is_async
+
+abbrev pub access_text : CoreImport → Accessed → List ℕ
+access_text i a = i.module_name ++ codes "-" ++ a.info.name
+
+-- an end, an address, and for a stream how many elements are there; and how many were passed
+abbrev pub access_params : PayloadFuncKind → List WasmType
+access_params ends.StreamRead = I32 ∷ I32 ∷ I32 ∷ []
+access_params ends.StreamWrite = I32 ∷ I32 ∷ I32 ∷ []
+access_params ends.FutureRead = I32 ∷ I32 ∷ []
+access_params ends.FutureWrite = I32 ∷ I32 ∷ []
+
+abbrev pub access_sig : PayloadFuncKind → WasmSignature
+access_sig kind = record { params = access_params kind; results = I32 ∷ []; indirect_params = false; retptr = false }
+
+-- its shim, with these options
+abbrev pub shim_of_access : MainOrAdapter → CoreImport → Accessed → RequiredOptions → NeededShim
+shim_of_access which i a options = record { options = options; debug_name = access_text i a; kind = access_kind which a; sig = access_sig a.kind }
+
+abbrev pub access_shim : ComponentWorld → MainOrAdapter → CoreImport → Accessed → NeededShim
+access_shim w which i a = shim_of_access which i a (access_options w a)
+
+-- elements are put where the module's realloc says behind the module alone; without a realloc there is a
+-- shim unless main imports its memory
+abbrev pub passes_through : ComponentWorld → RequiredOptions → Bool
+passes_through w options = needs options.0 realloc_bit || not (is_some (shared_memory w))
+
+abbrev pub accesses_through : ComponentWorld → Accessed → Bool
+accesses_through w a = passes_through w (access_options w a)
+
+abbrev pub access_shims : ComponentWorld → MainOrAdapter → ValidatedModule → CoreImport → Accessed → List NeededShim
+access_shims w which m i a = access_shim w which i a ∷ realloc_needs_of w sites.AfterInstantiation (access_options w a) (payload_realloc w which m a.info.imported)
+
+abbrev pub access_needs : ComponentWorld → MainOrAdapter → ValidatedModule → CoreImport → Accessed → List NeededShim
+access_needs w which m i a = if accesses_through w a then access_shims w which m i a else []
+
+-- ---- roles
+
 -- a call needs what its lowering does
 abbrev pub called_needs : ComponentWorld → MainOrAdapter → ValidatedModule → CoreImport → Option MemoryFunction → List NeededShim
 called_needs w which m i None = call_needs w which m i (call_of i.role)
 called_needs w which m i (Some function) = function_needs w which m function
 
+abbrev pub passing_needs : ComponentWorld → MainOrAdapter → ValidatedModule → CoreImport → Option Accessed → List NeededShim
+passing_needs w which m i None = called_needs w which m i (memory_function i.role)
+passing_needs w which m i (Some a) = access_needs w which m i a
+
 abbrev pub own_needs : ComponentWorld → MainOrAdapter → ValidatedModule → CoreImport → Option Returned → List NeededShim
-own_needs w which m i None = called_needs w which m i (memory_function i.role)
+own_needs w which m i None = passing_needs w which m i (accessed_of i.role)
 own_needs w which m i (Some r) = return_needs w which m r
 
 -- what another module is to give is there later
@@ -303,10 +386,19 @@ abbrev pub needs_of : ComponentWorld → MainOrAdapter → Option ValidatedModul
 needs_of w which None = []
 needs_of w which (Some m) = flat_map (import_needs w which m) (imports_of m) ++ flat_map (export_needs w which) m.exports.exports
 
--- the functions of a module's `task.return` are in the resolve
+-- the function whose result an import returns, or the type of what it reads from, or writes to, is in the resolve
+abbrev pub HasOwnTypes : Resolve → Import → Type 0
+HasOwnTypes r (imports.ExportedTaskReturn key interface f) = HasFunction r f
+HasOwnTypes r (imports.StreamRead p is_async) = HasPayload r p.ty
+HasOwnTypes r (imports.StreamWrite p is_async) = HasPayload r p.ty
+HasOwnTypes r (imports.FutureRead p is_async) = HasPayload r p.ty
+HasOwnTypes r (imports.FutureWrite p is_async) = HasPayload r p.ty
+HasOwnTypes r role = Unit {0}
+
+-- so it is of all imports of a module
 abbrev pub AreReturned : ComponentWorld → Option ValidatedModule → Type 0
 AreReturned w None = Unit {0}
-AreReturned w (Some m) = AllByRecursion (λ i. HasReturned w.resolve i.role) (imports_of m)
+AreReturned w (Some m) = AllByRecursion (λ i. HasOwnTypes w.resolve i.role) (imports_of m)
 
 -- so it is in every module
 abbrev pub AreAllReturned : ComponentWorld → Type 0

@@ -98,7 +98,8 @@ fn copy_realloc(
     Ok(ShimKind::Realloc { module, export })
 }
 
-fn copy_payload_func(
+/// The kind of a read or a write.
+pub(crate) fn copy_payload_func(
     alloc: Global,
     for_module: &MainOrAdapter,
     info: &PayloadInfo,

@@ -5,7 +5,6 @@ ghost use Rattle.std.specs.List.{AllByRecursion, flat_map};
 ghost use Rattle.comp_roles.specs.Borrowed.{core_import};
 ghost use Rattle.comp_worlds.specs.Uses.{imports_of};
 ghost use Rattle.wit_data.specs.Sound.{IsSound, HasFunction};
-ghost use Rattle.world_values.specs.Mentions.{HasReturned};
 ghost use Rattle.shim_plan.specs.Encodings.{Explains, place_of, unencoded_call, unencoded_if, unencoded_role, unencoded_import};
 ghost use Rattle.shim_plan.specs.Needed as specs;
 
@@ -16,6 +15,7 @@ use crate::fault::ShimFault;
 use crate::memory_functions::memory_function;
 use crate::modules::UserModule;
 use crate::needs::{NeededShim, append, copy_sig};
+use crate::payloads::accessed_of;
 use crate::reallocs::ReallocSite;
 use crate::returns::{ReturnedFunction, encoding_of_return, returned_of, returns_through};
 use comp_lists::Text;
@@ -241,7 +241,7 @@ impl UserModule<'_> {
 
     /// Adds the shims of a function that works on a memory, or of a call, if the import is one.
     #[tactic(auto, using(crate::proofs::Adapting::uncalled))]
-    fn add_unreturned(
+    fn add_plain(
         &self,
         needs: &mut Vec<NeededShim>,
         alloc: Global,
@@ -249,7 +249,7 @@ impl UserModule<'_> {
     ) -> Result<(), ShimFault>
         ensures ok { OnOk result (needs.new.items
             ≡ needs.old.items
-            ++ specs.own_needs self.now.world.now self.now.which.now self.now.found.now
+            ++ specs.passing_needs self.now.world.now self.now.which.now self.now.found.now
             (core_import import.now) None) }
         ensures encoded { OnOk result (unencoded_role self.now.world.now self.now.found.now
             (core_import import.now) None
@@ -266,7 +266,38 @@ impl UserModule<'_> {
         }
     }
 
-    /// Adds the shims of a return, a function that works on a memory, or a call, if the import is one.
+    /// Adds the shims of a read or a write, of a function that works on a memory, or of a call, if the
+    /// import is one.
+    #[tactic(auto, using(crate::proofs::Adapting::uncalled, crate::proofs::Returning::payload_there))]
+    fn add_unreturned(
+        &self,
+        needs: &mut Vec<NeededShim>,
+        alloc: Global,
+        import: &NamedImport<'_>,
+    ) -> Result<(), ShimFault>
+        requires sound { IsSound self.now.world.now.resolve }
+        requires there { specs.HasOwnTypes self.now.world.now.resolve import.now.role.now }
+        ensures ok { OnOk result (needs.new.items
+            ≡ needs.old.items
+            ++ specs.own_needs self.now.world.now self.now.which.now self.now.found.now
+            (core_import import.now) None) }
+        ensures encoded { OnOk result (unencoded_role self.now.world.now self.now.found.now
+            (core_import import.now) None
+            ≡ []) }
+        ensures cause { IfErr result (Explains (unencoded_role self.now.world.now self.now.found.now
+            (core_import import.now) None)) }
+    {
+        match accessed_of(import.role) {
+            Some(access) => {
+                self.add_access(needs, alloc, import, &access)?;
+                Ok(())
+            }
+            None => self.add_plain(needs, alloc, import),
+        }
+    }
+
+    /// Adds the shims of a return, a read or a write, a function that works on a memory, or a call, if
+    /// the import is one.
     #[tactic(auto, using(crate::proofs::Returning::function_there))]
     fn add_role(
         &self,
@@ -275,7 +306,7 @@ impl UserModule<'_> {
         import: &NamedImport<'_>,
     ) -> Result<(), ShimFault>
         requires sound { IsSound self.now.world.now.resolve }
-        requires returned { HasReturned self.now.world.now.resolve import.now.role.now }
+        requires returned { specs.HasOwnTypes self.now.world.now.resolve import.now.role.now }
         ensures ok { OnOk result (needs.new.items
             ≡ needs.old.items
             ++ specs.role_needs self.now.world.now self.now.which.now self.now.found.now
@@ -300,7 +331,7 @@ impl UserModule<'_> {
         import: &NamedImport<'_>,
     ) -> Result<(), ShimFault>
         requires sound { IsSound self.now.world.now.resolve }
-        requires returned { HasReturned self.now.world.now.resolve import.now.role.now }
+        requires returned { specs.HasOwnTypes self.now.world.now.resolve import.now.role.now }
         ensures ok { OnOk result (needs.new.items
             ≡ needs.old.items
             ++ specs.import_needs self.now.world.now self.now.which.now self.now.found.now
@@ -327,7 +358,7 @@ impl UserModule<'_> {
         imports: &[NamedImport<'_>],
     ) -> Result<(), ShimFault>
         requires sound { IsSound self.now.world.now.resolve }
-        requires returned { AllByRecursion (λ i. HasReturned self.now.world.now.resolve i.role)
+        requires returned { AllByRecursion (λ i. specs.HasOwnTypes self.now.world.now.resolve i.role)
             (map core_import imports.now) }
         ensures ok { OnOk result (needs.new.items
             ≡ needs.old.items ++ flat_map (specs.import_needs self.now.world.now
@@ -353,7 +384,7 @@ impl UserModule<'_> {
         alloc: Global,
     ) -> Result<(), ShimFault>
         requires sound { IsSound self.now.world.now.resolve }
-        requires returned { AllByRecursion (λ i. HasReturned self.now.world.now.resolve i.role)
+        requires returned { AllByRecursion (λ i. specs.HasOwnTypes self.now.world.now.resolve i.role)
             (imports_of self.now.found.now) }
         ensures ok { OnOk result (needs.new.items
             ≡ needs.old.items ++ flat_map (specs.import_needs self.now.world.now

@@ -78,4 +78,15 @@ impl<'a> UserModule<'a> {
         let own = self.found.exports.import_realloc_for(None, "");
         self.world.resolve_realloc(lent_module(self.which), own)
     }
+
+    /// The realloc of reads of a stream or a future of a function that is imported, or exported.
+    pub(crate) fn payload_realloc(&self, imported: bool) -> Option<(CustomModule<'a>, &'a str)>
+        ensures { lent_export result
+            ≡ specs.payload_realloc self.now.world.now self.now.which.now self.now.found.now
+            imported }
+    {
+        let own = self.found.exports.payload_realloc(imported);
+        let which = lent_module(self.which);
+        self.world.resolve_realloc(which, own)
+    }
 }

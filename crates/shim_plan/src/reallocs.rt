@@ -3,6 +3,7 @@
 ghost use Rattle.std.specs.Prelude.{◌≡◌, [], ◌∷◌, ◌++◌, IfOk, OnOk};
 ghost use Rattle.comp_worlds.specs.Lookups.{lent_export, module_name};
 ghost use Rattle.shim_plan.specs.Needed as specs;
+ghost use Rattle.shim_plan.specs.declared.reallocs.ReallocSite.TheVariants.{AfterInstantiation as after};
 
 use crate::kinds::ShimKind;
 use crate::modules::{UserModule, module_text, owned_module};
@@ -119,5 +120,26 @@ impl UserModule<'_> {
             return Ok(());
         }
         add_shim_of(needs, alloc, self.import_realloc())
+    }
+
+    /// The same, of a read of a stream or a future of a function that is imported, or exported, which is
+    /// made after the instantiation.
+    pub(crate) fn add_payload_realloc(
+        &self,
+        needs: &mut Vec<NeededShim>,
+        alloc: Global,
+        options: RequiredOptions,
+        imported: bool,
+    ) -> Result<(), AllocError>
+        ensures { OnOk result (needs.new.items
+            ≡ needs.old.items
+            ++ specs.realloc_needs_of self.now.world.now after options (specs.payload_realloc
+            self.now.world.now self.now.which.now self.now.found.now imported)) }
+    {
+        let site = ReallocSite::AfterInstantiation;
+        if !options.contains(RequiredOptions::REALLOC) || !realloc_needs_shim(self.world, site) {
+            return Ok(());
+        }
+        add_shim_of(needs, alloc, self.payload_realloc(imported))
     }
 }

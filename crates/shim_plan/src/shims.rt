@@ -152,9 +152,10 @@ impl Shims {
     /// order: for each import that is called through a table its own, and where
     /// [`realloc_needs_shim`](crate::realloc_needs_shim) one for the realloc of the call; for each
     /// `task.return` with options, wait, poll and making of an error context, where main imports no
-    /// memory; for each reading of the debug message of one; for each function that an adapter
-    /// exports; and one for each destructor that the module exports. A name that is no adapter's
-    /// needs none. Streams and futures are not planned yet.
+    /// memory; for each reading of the debug message of one; for each read from a stream or a future
+    /// and each write to it, where it has a realloc or main imports no memory; for each function that
+    /// an adapter exports; and one for each destructor that the module exports. A name that is no
+    /// adapter's needs none.
     ///
     /// `NoEncoding` for the first import that needs such a shim and has no string encoding. After a refusal the
     /// shims are as they were.

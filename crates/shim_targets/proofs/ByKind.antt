@@ -9,6 +9,9 @@ use Rattle.wit_data.specs.declared.worlds.WorldKey.{WorldKey}
 use Rattle.comp_roles.specs.declared.imports.Import.{Import}
 use Rattle.comp_roles.specs.declared.imports.Import.TheVariants as imports
 use Rattle.comp_roles.specs.declared.libraries.MainOrAdapter.{MainOrAdapter}
+use Rattle.comp_roles.specs.declared.payloads.PayloadFuncKind.{PayloadFuncKind}
+use Rattle.comp_roles.specs.declared.payloads.PayloadFuncKind.TheVariants as ends
+use Rattle.comp_roles.specs.declared.payloads.PayloadInfo.{PayloadInfo}
 use Rattle.comp_worlds.specs.declared.lowerings.LoweringKey.{LoweringKey}
 use Rattle.comp_worlds.specs.declared.world.ComponentWorld.{ComponentWorld}
 use Rattle.shim_plan.specs.declared.kinds.ShimKind.{ShimKind}
@@ -36,6 +39,10 @@ import_kind of imports.WaitableSetWait encoding kind e = ap of_export (sym (same
 import_kind of imports.WaitableSetPoll encoding kind e = ap of_export (sym (same_Some kinds.WaitableSetPoll kind e))
 import_kind of (imports.ErrorContextNew own) encoding kind e = ap of_export (sym (same_Some (kinds.ErrorContextNew own) kind e))
 import_kind of (imports.ErrorContextDebugMessage own) encoding kind e = ap of_export (sym (same_Some (kinds.ErrorContextDebugMessage (which_of of) own) kind e))
+import_kind of (imports.StreamRead p is_async) encoding kind e = ap of_export (sym (same_Some (kinds.PayloadFunc (which_of of) p ends.StreamRead is_async) kind e))
+import_kind of (imports.StreamWrite p is_async) encoding kind e = ap of_export (sym (same_Some (kinds.PayloadFunc (which_of of) p ends.StreamWrite is_async) kind e))
+import_kind of (imports.FutureRead p is_async) encoding kind e = ap of_export (sym (same_Some (kinds.PayloadFunc (which_of of) p ends.FutureRead is_async) kind e))
+import_kind of (imports.FutureWrite p is_async) encoding kind e = ap of_export (sym (same_Some (kinds.PayloadFunc (which_of of) p ends.FutureWrite is_async) kind e))
 import_kind of role encoding kind e = absurd (none-some kind e)
 
 -- that of a shim for an export is
@@ -62,6 +69,10 @@ module _ (w : ComponentWorld) (s : Shim) where
   -- so does one of the kind of returns
   pub for_return : (interface : Option InterfaceId) (name : List ℕ) (result : Option Ty) (which : MainOrAdapter) (encoding : StringEncoding) → s.kind ≡ kinds.TaskReturn interface name result which encoding → StandsForOne w s → (i : UserImport) × StandsFor w s i
   for_return interface name result which encoding is h = for_import (ap of_export is) h
+
+  -- so does one of the kind of reads and writes
+  pub for_access : (which : MainOrAdapter) (payload : PayloadInfo) (kind : PayloadFuncKind) (is_async : Bool) → s.kind ≡ kinds.PayloadFunc which payload kind is_async → StandsForOne w s → (i : UserImport) × StandsFor w s i
+  for_access which payload kind is_async is h = for_import (ap of_export is) h
 
   -- a shim of a kind of an export stands for that
   pub for_export : (e : ExportRef) → export_of_kind s.kind ≡ Some e → StandsForOne w s → StandsForExport w s e

@@ -26,7 +26,7 @@ use Rattle.comp_worlds.specs.declared.lowerings.Lowering.TheVariants as lowering
 use Rattle.comp_worlds.specs.declared.lowerings.LoweringKey.{LoweringKey}
 use Rattle.comp_worlds.specs.declared.world.ComponentWorld.{ComponentWorld}
 use Rattle.comp_worlds.specs.declared.world.ValidatedModule.{ValidatedModule}
-use Rattle.shim_plan.specs.Needed.{realloc_shim, realloc_shims, import_realloc, realloc_needs, indirect_name, indirect_shim, indirect_needs, lowering_needs, lowering_of_call}
+use Rattle.shim_plan.specs.Needed.{realloc_shim, realloc_shims, import_realloc, realloc_needs, realloc_needs_of, indirect_name, indirect_shim, indirect_needs, lowering_needs, lowering_of_call}
 use Rattle.shim_plan.specs.Plans.{shim_at}
 use Rattle.shim_plan.specs.declared.kinds.ShimKind.{ShimKind}
 use Rattle.shim_plan.specs.declared.kinds.ShimKind.TheVariants as kinds
@@ -51,10 +51,13 @@ Stands w n = (place : ℕ) → StandsForOne w (shim_at place n)
 -- ---- reallocs
 
 -- none after instantiation, as main has no task hook
+pub no_realloc_of : (w : ComponentWorld) → IsEncodable w → (options : RequiredOptions) (realloc : Option Pair) → realloc_needs_of w sites.AfterInstantiation options realloc ≡ []
+no_realloc_of w ok options realloc =
+    ap (λ b. if needs options.0 2 && b then realloc_shims realloc else []) (no_hook w ok)
+    ∙ ap (λ b. if b then realloc_shims realloc else []) (and-false (needs options.0 2))
+
 pub no_realloc_after : (w : ComponentWorld) → IsEncodable w → (which : MainOrAdapter) (m : ValidatedModule) (options : RequiredOptions) → realloc_needs w which m sites.AfterInstantiation options ≡ []
-no_realloc_after w ok which m options =
-    ap (λ b. if needs options.0 2 && b then realloc_shims (import_realloc w which m) else []) (no_hook w ok)
-    ∙ ap (λ b. if b then realloc_shims (import_realloc w which m) else []) (and-false (needs options.0 2))
+no_realloc_after w ok which m options = no_realloc_of w ok options (import_realloc w which m)
 
 -- and none before, where the options name none
 no_realloc_before : (w : ComponentWorld) (which : MainOrAdapter) (m : ValidatedModule) (options : RequiredOptions) → needs options.0 2 ≡ false → realloc_needs w which m sites.BeforeInstantiation options ≡ []
@@ -69,6 +72,10 @@ call_named of i imports.WaitableSetWait encoding interface function which is = c
 call_named of i imports.WaitableSetPoll encoding interface function which is = cc
 call_named of i (imports.ErrorContextNew own) encoding interface function which is = cc
 call_named of i (imports.ErrorContextDebugMessage own) encoding interface function which is = cc
+call_named of i (imports.StreamRead p is_async) encoding interface function which is = cc
+call_named of i (imports.StreamWrite p is_async) encoding interface function which is = cc
+call_named of i (imports.FutureRead p is_async) encoding interface function which is = cc
+call_named of i (imports.FutureWrite p is_async) encoding interface function which is = cc
 call_named of i role encoding interface function which is = refl
 
 module _ (w : ComponentWorld) (of : UserModule) (m : ValidatedModule) (i : CoreImport) (interface : Option WorldKey) (key : WorldKey) (name : List ℕ) (abi : AbiVariant) (h : IsLowered w i.role interface key name abi) where

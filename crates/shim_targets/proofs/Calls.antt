@@ -26,6 +26,7 @@ use Rattle.comp_roles.specs.CoreTypes.{called_type}
 use Rattle.comp_roles.specs.Functions.{of_function}
 use Rattle.comp_roles.specs.declared.imports.Import.{Import}
 use Rattle.comp_roles.specs.declared.imports.Import.TheVariants as imports
+use Rattle.comp_roles.specs.declared.payloads.PayloadFuncKind.TheVariants as ends
 use Rattle.comp_options.specs.Options.{import_set}
 use Rattle.world_values.specs.Items.{function_in, functions_of, root_function_at}
 use Rattle.comp_worlds.specs.Encodable.{IsEncodable}
@@ -202,5 +203,13 @@ role_back w ok of imports.WaitableSetPoll h encoding kind e = ap (role_of_kind w
 role_back w ok of (imports.ErrorContextNew own) h encoding kind e = ap (role_of_kind w) (sym (same_Some (kinds.ErrorContextNew own) kind e))
 role_back w ok of (imports.ErrorContextDebugMessage own) h encoding kind e =
     ap (role_of_kind w) (sym (same_Some (kinds.ErrorContextDebugMessage (which_of of) own) kind e)) ∙ ap (λ (u : UserModule). Some (u, imports.ErrorContextDebugMessage own)) (back of)
+role_back w ok of (imports.StreamRead p is_async) h encoding kind e =
+    ap (role_of_kind w) (sym (same_Some (kinds.PayloadFunc (which_of of) p ends.StreamRead is_async) kind e)) ∙ ap (λ (u : UserModule). Some (u, imports.StreamRead p is_async)) (back of)
+role_back w ok of (imports.StreamWrite p is_async) h encoding kind e =
+    ap (role_of_kind w) (sym (same_Some (kinds.PayloadFunc (which_of of) p ends.StreamWrite is_async) kind e)) ∙ ap (λ (u : UserModule). Some (u, imports.StreamWrite p is_async)) (back of)
+role_back w ok of (imports.FutureRead p is_async) h encoding kind e =
+    ap (role_of_kind w) (sym (same_Some (kinds.PayloadFunc (which_of of) p ends.FutureRead is_async) kind e)) ∙ ap (λ (u : UserModule). Some (u, imports.FutureRead p is_async)) (back of)
+role_back w ok of (imports.FutureWrite p is_async) h encoding kind e =
+    ap (role_of_kind w) (sym (same_Some (kinds.PayloadFunc (which_of of) p ends.FutureWrite is_async) kind e)) ∙ ap (λ (u : UserModule). Some (u, imports.FutureWrite p is_async)) (back of)
 role_back w ok of (imports.WorldFunc (keys.Interface other) function abi) h encoding kind e = absurd (true≢false (sym h))
 role_back w ok of role h encoding kind e = absurd (none-some kind e)

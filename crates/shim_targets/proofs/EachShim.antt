@@ -12,6 +12,7 @@ use Rattle.comp_roles.specs.declared.exports.Export.TheVariants as exports
 use Rattle.comp_roles.specs.declared.imports.Import.{Import}
 use Rattle.comp_roles.specs.declared.imports.Import.TheVariants as imports
 use Rattle.comp_roles.specs.declared.libraries.MainOrAdapter.{MainOrAdapter}
+use Rattle.comp_roles.specs.declared.payloads.PayloadFuncKind.TheVariants as ends
 use Rattle.comp_roles.specs.declared.offered.ExternType.TheVariants as externs
 use Rattle.comp_worlds.specs.Encodable.{IsEncodable}
 use Rattle.comp_worlds.specs.Offered.{AdapterOffers}
@@ -32,6 +33,7 @@ use Rattle.comp_links.specs.Links.{module_of}
 use Rattle.comp_links.specs.Modules.{WorldModule, module_found, user_modules, user_imports}
 use Rattle.comp_links.specs.Targets.{UserModule, Adapter}
 use Rattle.shim_targets.specs.ShimTargets.{which_of, StandsForOne, StandsForExport}
+use Rattle.shim_targets.proofs.AccessNeeds.{access_needs_stand}
 use Rattle.shim_targets.proofs.ReturnNeeds.{return_needs_stand}
 use Rattle.shim_targets.proofs.AdapterNeeds.{adapter_shim, adapter_needed, numbers_back}
 use Rattle.shim_targets.proofs.CallNeeds.{Stands, call_needs_stand}
@@ -98,6 +100,10 @@ module _ (w : ComponentWorld) (ok : IsEncodable w) (of : UserModule) (m : Valida
   import_stands name field imports.WaitableSetPoll there h = unless_shared w ok of m functions.Poll (poll_stands w of m found name field there)
   import_stands name field (imports.ErrorContextNew encoding) there h = unless_shared w ok of m (functions.NewError encoding) (new_error_stands w of m found name field encoding there)
   import_stands name field (imports.ErrorContextDebugMessage encoding) there h = all_through w ok of m (functions.ErrorMessage encoding) (message_stands w of m found name field encoding there)
+  import_stands name field (imports.StreamRead p is_async) there h = access_needs_stand w ok of m found name field p is_async h ends.StreamRead there
+  import_stands name field (imports.StreamWrite p is_async) there h = access_needs_stand w ok of m found name field p is_async h ends.StreamWrite there
+  import_stands name field (imports.FutureRead p is_async) there h = access_needs_stand w ok of m found name field p is_async h ends.FutureRead there
+  import_stands name field (imports.FutureWrite p is_async) there h = access_needs_stand w ok of m found name field p is_async h ends.FutureWrite there
   import_stands name field (imports.WorldFunc (keys.Interface other) function abi) there h = absurd (true≢false (sym h))
   import_stands name field role there h = tt
 

@@ -24,4 +24,5 @@ pub mod Returned
 mod ExportKeys
 mod ReturnNeeds
 mod FunctionNeeds
+mod AccessNeeds
 pub mod Owners

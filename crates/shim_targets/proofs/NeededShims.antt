@@ -10,6 +10,10 @@ use Rattle.wit_data.specs.declared.worlds.WorldKey.TheVariants as keys
 use Rattle.comp_roles.specs.CoreImports.{CoreImport}
 use Rattle.comp_roles.specs.declared.imports.Import.{Import}
 use Rattle.comp_roles.specs.declared.imports.Import.TheVariants as imports
+use Rattle.comp_roles.specs.declared.payloads.PayloadFuncKind.{PayloadFuncKind}
+use Rattle.comp_roles.specs.declared.payloads.PayloadFuncKind.TheVariants as ends
+use Rattle.comp_roles.specs.declared.payloads.PayloadInfo.{PayloadInfo}
+use Rattle.comp_terms.specs.Generated.{access_role}
 use Rattle.comp_roles.specs.declared.libraries.MainOrAdapter.{MainOrAdapter}
 use Rattle.comp_options.specs.Options.{needs}
 use Rattle.comp_worlds.specs.Encodable.{IsEncodable}
@@ -19,7 +23,7 @@ use Rattle.comp_worlds.specs.declared.world.ComponentWorld.{ComponentWorld}
 use Rattle.comp_worlds.specs.declared.world.ValidatedModule.{ValidatedModule}
 use Rattle.shim_plan.proofs.Appending.{known as known_by_kinds}
 use Rattle.shim_plan.proofs.EqualKinds.{are_one}
-use Rattle.shim_plan.specs.Needed.{realloc_shim, import_realloc, import_needs, export_needs, needs_of, needed}
+use Rattle.shim_plan.specs.Needed.{realloc_shim, import_realloc, import_needs, export_needs, needs_of, needed, Accessed, access_kind, access_shim, access_to, accesses_through}
 use Rattle.comp_worlds.specs.Offered.{shared_memory}
 use Rattle.shim_plan.specs.Plans.{same_kind, kinds_of, shim_of, numbered, lacking}
 use Rattle.shim_plan.specs.declared.kinds.ShimKind.{ShimKind}
@@ -29,12 +33,13 @@ use Rattle.shim_plan.specs.declared.memory_functions.MemoryFunction.TheVariants 
 use Rattle.shim_plan.specs.declared.needs.NeededShim.{NeededShim}
 use Rattle.shim_plan.specs.declared.reallocs.ReallocSite.TheVariants as sites
 use Rattle.world_shims.specs.WorldShims.{modules_in, shims_of}
-use Rattle.comp_links.specs.Links.{lower_needs}
+use Rattle.comp_links.specs.Links.{lower_needs, is_always_shimmed}
 use Rattle.comp_links.specs.Modules.{UserImport, module_found, user_imports}
-use Rattle.comp_links.specs.Roles.{encoding_in, import_encoding, is_always_shimmed}
+use Rattle.comp_links.specs.Roles.{encoding_in, import_encoding}
 use Rattle.comp_links.specs.Targets.{UserModule}
 use Rattle.shim_targets.specs.CallOptions.{NamesNoExport}
 use Rattle.shim_targets.specs.ShimTargets.{which_of, kind_of_import}
+use Rattle.shim_targets.proofs.AccessNeeds.{access_import, access_needed, through_unshared}
 use Rattle.shim_targets.proofs.CallNeeds.{realloc_needed, shim_with, call_needed, kind_of_shim}
 use Rattle.shim_targets.proofs.Calls.{world_call, interface_call}
 use Rattle.shim_targets.proofs.Lists.{contains_none, contains_cons, contains_first, contains_later, contains_flat, passes_any, any_push}
@@ -140,12 +145,28 @@ import_needed w ok unshared of m name field (imports.ErrorContextNew own) there 
     record { shim = function_shim (which_of of) (functions.NewError own); there = unshared_needed w of m (functions.NewError own) unshared; same = same_Some (kinds.ErrorContextNew own) kind is }
 import_needed w ok unshared of m name field (imports.ErrorContextDebugMessage own) there h encoding encoded memory kind is =
     record { shim = function_shim (which_of of) (functions.ErrorMessage own); there = through_needed w of m (functions.ErrorMessage own); same = same_Some (kinds.ErrorContextDebugMessage (which_of of) own) kind is }
+import_needed w ok unshared of m name field (imports.StreamRead p is_async) there h encoding encoded memory kind is =
+    let i : CoreImport = record { module_name = name; field = field; role = imports.StreamRead p is_async } in
+    let a : Accessed = access_to p ends.StreamRead is_async in
+    record { shim = access_shim w (which_of of) i a; there = access_needed w of m i a (through_unshared w a unshared); same = same_Some (access_kind (which_of of) a) kind is }
+import_needed w ok unshared of m name field (imports.StreamWrite p is_async) there h encoding encoded memory kind is =
+    let i : CoreImport = record { module_name = name; field = field; role = imports.StreamWrite p is_async } in
+    let a : Accessed = access_to p ends.StreamWrite is_async in
+    record { shim = access_shim w (which_of of) i a; there = access_needed w of m i a (through_unshared w a unshared); same = same_Some (access_kind (which_of of) a) kind is }
+import_needed w ok unshared of m name field (imports.FutureRead p is_async) there h encoding encoded memory kind is =
+    let i : CoreImport = record { module_name = name; field = field; role = imports.FutureRead p is_async } in
+    let a : Accessed = access_to p ends.FutureRead is_async in
+    record { shim = access_shim w (which_of of) i a; there = access_needed w of m i a (through_unshared w a unshared); same = same_Some (access_kind (which_of of) a) kind is }
+import_needed w ok unshared of m name field (imports.FutureWrite p is_async) there h encoding encoded memory kind is =
+    let i : CoreImport = record { module_name = name; field = field; role = imports.FutureWrite p is_async } in
+    let a : Accessed = access_to p ends.FutureWrite is_async in
+    record { shim = access_shim w (which_of of) i a; there = access_needed w of m i a (through_unshared w a unshared); same = same_Some (access_kind (which_of of) a) kind is }
 import_needed w ok unshared of m name field (imports.WorldFunc (keys.Interface other) function abi) there h encoding encoded memory kind is = absurd (true≢false (sym h))
 import_needed w ok unshared of m name field role there h encoding encoded memory kind is = absurd (none-some kind is)
 
 -- so has one that needs a realloc, where main imports its memory
 realloc_needed_by : (w : ComponentWorld) → IsEncodable w → is_some (shared_memory w) ≡ true → (of : UserModule) (m : ValidatedModule) (name field : List ℕ) (role : Import) → Contains (user_imports w) (record { of = of; core = record { module_name = name; field = field; role = role } }) →
-    IsImportRole w role → is_always_shimmed role ≡ false → IsTrue (needs (lower_needs w role) 2) → (r : Pair) → import_realloc w (which_of of) m ≡ Some r → IsKindNeeded w of m (record { module_name = name; field = field; role = role }) (realloc_shim r).kind
+    IsImportRole w role → is_always_shimmed w role ≡ false → IsTrue (needs (lower_needs w role) 2) → (r : Pair) → import_realloc w (which_of of) m ≡ Some r → IsKindNeeded w of m (record { module_name = name; field = field; role = role }) (realloc_shim r).kind
 realloc_needed_by w ok shared of m name field (imports.WorldFunc (keys.Name text) function abi) there h apart realloc r found =
     let i : CoreImport = record { module_name = name; field = field; role = imports.WorldFunc (keys.Name text) function abi } in
     let lowered = world_call w ok (record { of = of; core = i }) there text function abi refl h in
@@ -164,6 +185,10 @@ realloc_needed_by w ok shared of m name field (imports.AdapterExport adapter fun
 realloc_needed_by w ok shared of m name field (imports.Item item) there h apart realloc r found = absurd (true≢false (sym realloc))
 realloc_needed_by w ok shared of m name field (imports.ExportedTaskReturn key interface f) there h apart realloc r found = absurd (true≢false (sym realloc ∙ no_realloc_returned w.resolve.types f))
 realloc_needed_by w ok shared of m name field (imports.ErrorContextDebugMessage encoding) there h apart realloc r found = absurd (true≢false apart)
+realloc_needed_by w ok shared of m name field (imports.StreamRead p is_async) there h apart realloc r found = absurd (true≢false (sym realloc ∙ apart))
+realloc_needed_by w ok shared of m name field (imports.StreamWrite p is_async) there h apart realloc r found = absurd (true≢false (sym realloc ∙ apart))
+realloc_needed_by w ok shared of m name field (imports.FutureRead p is_async) there h apart realloc r found = absurd (true≢false (sym realloc ∙ apart))
+realloc_needed_by w ok shared of m name field (imports.FutureWrite p is_async) there h apart realloc r found = absurd (true≢false (sym realloc ∙ apart))
 realloc_needed_by w ok shared of m name field (imports.WorldFunc (keys.Interface other) function abi) there h apart realloc r found = absurd (true≢false (sym h))
 realloc_needed_by w ok shared of m name field role there h apart realloc r found = absurd (true≢false (sym realloc))
 
@@ -199,8 +224,20 @@ message_there w of m found i c encoding is =
     subst (λ (role : Import). Contains (import_needs w (which_of of) m (record { module_name = i.module_name; field = i.field; role = role })) shim) (sym is) (through_needed w of m (functions.ErrorMessage encoding)) in
     needed_there w of m found i c (kinds.ErrorContextDebugMessage (which_of of) encoding) (record { shim = shim; there = there; same = refl })
 
+-- so has a read or a write that needs a realloc
+pub access_there : (w : ComponentWorld) (of : UserModule) (m : ValidatedModule) → module_found w of ≡ Some m → (i : CoreImport) → Contains (imports_of m) i → (p : PayloadInfo) (kind : PayloadFuncKind) (is_async : Bool) → i.role ≡ access_role p kind is_async →
+    accesses_through w (access_to p kind is_async) ≡ true → IsSome (shim_of (kinds.PayloadFunc (which_of of) p kind is_async) (shims_of w))
+access_there w of m found i c p kind is_async is through =
+    let a : Accessed = access_to p kind is_async in
+    let own : CoreImport = record { module_name = i.module_name; field = i.field; role = access_role p kind is_async } in
+    let shim : NeededShim = access_shim w (which_of of) own a in
+    let needed : Contains (import_needs w (which_of of) m own) shim = subst (λ ns. Contains ns shim) (sym (access_import w of m i.module_name i.field p kind is_async)) (access_needed w of m own a through) in
+    let there : Contains (import_needs w (which_of of) m i) shim =
+    subst (λ (role : Import). Contains (import_needs w (which_of of) m (record { module_name = i.module_name; field = i.field; role = role })) shim) (sym is) needed in
+    needed_there w of m found i c (kinds.PayloadFunc (which_of of) p kind is_async) (record { shim = shim; there = there; same = refl })
+
 -- the realloc of calls of an import has a shim, where main imports its memory
-pub realloc_there : (w : ComponentWorld) → IsEncodable w → is_some (shared_memory w) ≡ true → (of : UserModule) (m : ValidatedModule) → module_found w of ≡ Some m → (i : CoreImport) → Contains (imports_of m) i → is_always_shimmed i.role ≡ false → IsTrue (needs (lower_needs w i.role) 2) →
+pub realloc_there : (w : ComponentWorld) → IsEncodable w → is_some (shared_memory w) ≡ true → (of : UserModule) (m : ValidatedModule) → module_found w of ≡ Some m → (i : CoreImport) → Contains (imports_of m) i → is_always_shimmed w i.role ≡ false → IsTrue (needs (lower_needs w i.role) 2) →
     (r : Pair) → import_realloc w (which_of of) m ≡ Some r → IsSome (shim_of (realloc_shim r).kind (shims_of w))
 realloc_there w ok shared of m found i c apart realloc r is =
     let there : Contains (user_imports w) (record { of = of; core = i }) = of_module w of m i found c in

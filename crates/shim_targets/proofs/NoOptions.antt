@@ -1,5 +1,5 @@
 -- The options of a call that needs no memory name nothing that a module exports.
-use Rattle.std.proofs.Common.{◌≡◌, ℕ, false, List, Option, Some, None, refl, true≢false}
+use Rattle.std.proofs.Common.{◌≡◌, ◌∙◌, ℕ, false, List, Option, Some, None, refl, sym, true≢false}
 use Rattle.std.specs.Option.{option_map_or}
 use Rattle.wit_data.specs.declared.functions.AbiVariant.{AbiVariant}
 use Rattle.wit_data.specs.declared.functions.Function.{Function}
@@ -7,8 +7,9 @@ use Rattle.wit_data.specs.declared.types.TypeDef.{TypeDef}
 use Rattle.comp_lists.specs.Found.{found}
 use Rattle.comp_roles.specs.declared.imports.Import.{Import}
 use Rattle.comp_roles.specs.declared.imports.Import.TheVariants as imports
+use Rattle.comp_roles.specs.declared.payloads.PayloadFuncKind.TheVariants as ends
 use Rattle.comp_options.specs.Options.{needs, import_set}
-use Rattle.comp_options.proofs.ImportSets.{no_realloc_needed, no_realloc_returned}
+use Rattle.comp_options.proofs.ImportSets.{memory_accessed, no_realloc_needed, no_realloc_returned}
 use Rattle.world_values.specs.Items.{functions_of, root_function_at}
 use Rattle.comp_worlds.specs.WorldContents.{items_of}
 use Rattle.comp_worlds.specs.declared.world.ComponentWorld.{ComponentWorld}
@@ -27,4 +28,8 @@ role_without w imports.WaitableSetWait e = absurd (true≢false e)
 role_without w imports.WaitableSetPoll e = absurd (true≢false e)
 role_without w (imports.ErrorContextNew own) e = absurd (true≢false e)
 role_without w (imports.ErrorContextDebugMessage own) e = absurd (true≢false e)
+role_without w (imports.StreamRead p is_async) e = absurd (true≢false (sym (memory_accessed w.resolve.types p.ty ends.StreamRead is_async) ∙ e))
+role_without w (imports.StreamWrite p is_async) e = absurd (true≢false (sym (memory_accessed w.resolve.types p.ty ends.StreamWrite is_async) ∙ e))
+role_without w (imports.FutureRead p is_async) e = absurd (true≢false (sym (memory_accessed w.resolve.types p.ty ends.FutureRead is_async) ∙ e))
+role_without w (imports.FutureWrite p is_async) e = absurd (true≢false (sym (memory_accessed w.resolve.types p.ty ends.FutureWrite is_async) ∙ e))
 role_without w role e = record { memory = refl; realloc = refl }

@@ -6,13 +6,14 @@ use Rattle.comp_roles.specs.declared.imports.Import.{Import}
 use Rattle.comp_roles.specs.declared.imports.Import.TheVariants as imports
 use Rattle.comp_roles.specs.declared.libraries.MainOrAdapter.{MainOrAdapter}
 use Rattle.comp_roles.specs.declared.libraries.MainOrAdapter.TheVariants as users
+use Rattle.comp_roles.specs.declared.payloads.PayloadFuncKind.TheVariants as ends
 use Rattle.comp_options.specs.Options.{needs, memory_bit}
 use Rattle.comp_worlds.specs.declared.world.ComponentWorld.{ComponentWorld}
 use Rattle.shim_plan.specs.declared.kinds.ShimKind.{ShimKind}
 use Rattle.shim_plan.specs.declared.kinds.ShimKind.TheVariants as kinds
 use Rattle.shim_plan.specs.declared.shims.Shim.{Shim}
-use Rattle.comp_links.specs.Links.{lower_needs}
-use Rattle.comp_links.specs.Roles.{import_encoding, is_always_shimmed}
+use Rattle.comp_links.specs.Links.{lower_needs, is_always_shimmed}
+use Rattle.comp_links.specs.Roles.{import_encoding}
 use Rattle.comp_links.specs.Modules.{UserImport, user_imports}
 use Rattle.comp_links.specs.Targets.{UserModule, Main, Adapter, ExportRef}
 use Rattle.comp_terms.specs.Generated.{IsShimOf, IsShimOfExport}
@@ -34,6 +35,10 @@ kind_of_import of imports.WaitableSetWait encoding = Some kinds.WaitableSetWait
 kind_of_import of imports.WaitableSetPoll encoding = Some kinds.WaitableSetPoll
 kind_of_import of (imports.ErrorContextNew own) encoding = Some (kinds.ErrorContextNew own)
 kind_of_import of (imports.ErrorContextDebugMessage own) encoding = Some (kinds.ErrorContextDebugMessage (which_of of) own)
+kind_of_import of (imports.StreamRead p is_async) encoding = Some (kinds.PayloadFunc (which_of of) p ends.StreamRead is_async)
+kind_of_import of (imports.StreamWrite p is_async) encoding = Some (kinds.PayloadFunc (which_of of) p ends.StreamWrite is_async)
+kind_of_import of (imports.FutureRead p is_async) encoding = Some (kinds.PayloadFunc (which_of of) p ends.FutureRead is_async)
+kind_of_import of (imports.FutureWrite p is_async) encoding = Some (kinds.PayloadFunc (which_of of) p ends.FutureWrite is_async)
 kind_of_import of role encoding = None
 
 -- The shim is the lowering, or the built-in function, of this core import of a user module: it has the
@@ -44,7 +49,7 @@ pub record StandsFor (w : ComponentWorld) (s : Shim) (i : UserImport) : Type 0 w
   pub is : IsShimOf w s (shim_owner i.of i.core.role) i.core.role
   pub options : s.options.0 ≡ lower_needs w i.core.role
   pub memory : IsTrue (needs (lower_needs w i.core.role) memory_bit)
-  pub unshared : is_always_shimmed i.core.role ≡ false → shared_memory w ≡ None
+  pub unshared : is_always_shimmed w i.core.role ≡ false → shared_memory w ≡ None
   pub encoding : StringEncoding
   pub encoded : import_encoding w i.of i.core.role ≡ Some encoding
   pub kind : kind_of_import i.of i.core.role encoding ≡ Some s.kind

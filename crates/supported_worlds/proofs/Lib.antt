@@ -11,6 +11,7 @@ mod Lending
 pub mod Lists
 mod Order
 mod OwnRoles
+mod PayloadRoles
 mod Reporting
 mod Testing
 mod TypePlaces

@@ -1,5 +1,5 @@
 -- What the tests of a world's order say of it.
-use Rattle.std.proofs.Common.{arith, ◌≡◌, ◌<◌, ◌≤◌, ◌==◌, nat_le, ℕ, zero, suc, Bool, true, false, ◌&&◌, List, [], ◌∷◌, length, map, get_or, Option, Some, None, is_none, is_some, refl, sym, ap, subst, true≢false}
+use Rattle.std.proofs.Common.{arith, ◌≡◌, ◌<◌, ◌≤◌, ◌==◌, nat_le, ℕ, zero, suc, Bool, true, false, ◌&&◌, List, [], ◌∷◌, length, map, get_or, Option, Some, None, is_none, is_some, if◌then◌else◌, refl, sym, ap, subst, true≢false}
 use Rattle.std.specs.Prelude.{IsSome, codes, slice_get}
 use Rattle.std.specs.List.{AllByRecursion, list_all}
 use Rattle.std.specs.Option.{option_and_then, option_map_or}
@@ -23,15 +23,22 @@ use Rattle.wit_data.specs.declared.worlds.WorldKey.{WorldKey}
 use Rattle.wit_data.specs.Live.{named_types}
 use Rattle.wit_data.specs.Parts.{parts}
 use Rattle.wit_data.specs.Values.{kind_at}
+use Rattle.built_ins.specs.BuiltIns.{plain_intrinsic}
+use Rattle.built_ins.specs.Payloads.{called_payload}
 use Rattle.comp_roles.specs.CoreImports.{CoreImport}
 use Rattle.comp_roles.specs.declared.imports.Import.{Import}
 use Rattle.comp_roles.specs.declared.imports.Import.TheVariants as imports
+use Rattle.comp_roles.specs.declared.payloads.PayloadInfo.{PayloadInfo}
+use Rattle.comp_roles.specs.declared.payloads.PayloadType.{PayloadType}
+use Rattle.comp_roles.specs.declared.payloads.PayloadType.TheVariants as payloads
 use Rattle.world_values.specs.Items.{functions_of}
-use Rattle.world_values.specs.Mentions.{interface_types}
-use Rattle.comp_worlds.specs.Encodable.{Entries, place_in, place, IsListedType, IsTypePlaced, IsFunctionPlaced, IsOwnType, IsInterfacePlaced, IsItemPlaced, IsExportPlaced, IsRolePlaced, is_lent, stays_in}
+use Rattle.world_values.specs.Mentions.{interface_types, payload_in, payload_type, imported_payload}
+use Rattle.comp_worlds.proofs.PayloadRoles.{called_in, plain_in}
+use Rattle.comp_worlds.specs.Encodable.{Entries, place_in, place, IsListedType, IsTypePlaced, IsFunctionPlaced, IsOwnType, IsInterfacePlaced, IsItemPlaced, IsExportPlaced, IsAtRoot, IsRolePlaced, is_lent, stays_in}
 use Rattle.comp_worlds.specs.WorldContents.{interface_of_owner, interface_at, name_at}
-use Rattle.supported_worlds.specs.LeftOut.{unless, import_left_out}
-use Rattle.supported_worlds.specs.Placed.{places_of, place_at, is_by, is_named_as, is_listed_as, is_listed_in, is_type_placed, are_types_placed, is_function_placed, is_owned, is_own_type, ascend_from, lists_own_types, is_interface_placed, is_item_placed, are_imports_placed, is_export_placed, are_exports_placed, is_world_placed, is_resource, is_droppable}
+use Rattle.supported_worlds.specs.Kinds.{import_kind}
+use Rattle.supported_worlds.specs.LeftOut.{unless, built_in_left_out, import_left_out}
+use Rattle.supported_worlds.specs.Placed.{places_of, place_at, is_by, is_named_as, is_listed_as, is_listed_in, is_type_placed, are_types_placed, is_function_placed, is_owned, is_own_type, ascend_from, lists_own_types, is_interface_placed, is_item_placed, are_imports_placed, is_export_placed, are_exports_placed, is_world_placed, is_resource, is_droppable, is_payload_at, is_payload_type, is_payload_placed}
 use Rattle.supported_worlds.proofs.InPlace.{both, ascending}
 use Rattle.supported_worlds.proofs.Lists.{nothing}
 
@@ -169,12 +176,39 @@ module _ (r : Resolve) (es : Entries) where
 
   -- ---- roles
 
+  -- the type of a stream or a future of an imported function
+  payload_at_root : (imported : Bool) (ty : PayloadType) → is_payload_type r.types (places_of r.types es) (length es) imported ty ≡ true → IsAtRoot r es (if imported then payload_type ty else None)
+  payload_at_root true (payloads.Typed id name) h = leb-true (get_or (places_of r.types es) id.index 0) (length es) (both (is_payload_at r.types id) (nat_le (get_or (places_of r.types es) id.index 0) (length es)) h).1
+  payload_at_root true payloads.UnitStream h = tt
+  payload_at_root true payloads.UnitFuture h = tt
+  payload_at_root false ty h = tt
+
+  built_in_placed : (role : Import) (o : Option PayloadInfo) → called_payload role ≡ o → built_in_left_out r.types (places_of r.types es) (length es) role o ≡ None → IsAtRoot r es (imported_payload (payload_in role))
+  built_in_placed role (Some p) is h =
+      subst (λ (o : Option PayloadInfo). IsAtRoot r es (imported_payload o)) (sym (called_in role p is))
+      (payload_at_root p.imported p.ty (passes (is_payload_placed r.types (places_of r.types es) (length es) p) (import_kind role) h))
+  built_in_placed role None is h = subst (λ (o : Option PayloadInfo). IsAtRoot r es (imported_payload o)) (sym (plain_in role (passes (is_some (plain_intrinsic true role)) (import_kind role) h))) tt
+
   role_placed : (role : Import) → import_left_out r.types (places_of r.types es) (length es) role ≡ None → IsRolePlaced r es role
   role_placed (imports.ImportedResourceDrop key interface id) h =
       let b = both (option_map_or is_resource (slice_get r.types id.index) false) (nat_le (get_or (places_of r.types es) id.index 0) (length es))
       (passes (is_droppable r.types (places_of r.types es) (length es) id) (codes "imported-drop") h) in
       leb-true (get_or (places_of r.types es) id.index 0) (length es) b.1
-  role_placed role h = tt
+  role_placed (imports.WorldFunc key name abi) h = tt
+  role_placed (imports.InterfaceFunc key id name abi) h = tt
+  role_placed (imports.ExportedResourceDrop key id) h = tt
+  role_placed (imports.ExportedResourceRep key id) h = tt
+  role_placed (imports.ExportedResourceNew key id) h = tt
+  role_placed (imports.ExportedTaskReturn key interface f) h = tt
+  role_placed imports.WaitableSetWait h = tt
+  role_placed imports.WaitableSetPoll h = tt
+  role_placed (imports.ErrorContextNew encoding) h = tt
+  role_placed (imports.ErrorContextDebugMessage encoding) h = tt
+  role_placed (imports.MainModuleMemory type) h = tt
+  role_placed (imports.MainModuleExport name kind) h = tt
+  role_placed (imports.AdapterExport adapter name type) h = tt
+  role_placed (imports.Item item) h = tt
+  role_placed role h = built_in_placed role (called_payload role) refl h
 
   pub roles_placed : (all : List CoreImport) → AllByRecursion (λ i. import_left_out r.types (places_of r.types es) (length es) i.role ≡ None) all → AllByRecursion (λ i. IsRolePlaced r es i.role) all
   roles_placed [] h = tt

@@ -25,6 +25,7 @@ use Rattle.wit_data.specs.declared.worlds.WorldKey.{WorldKey}
 use Rattle.wit_data.specs.declared.worlds.WorldKey.TheVariants as keys
 use Rattle.built_ins.proofs.Typed.{plain_typed}
 use Rattle.built_ins.specs.BuiltIns.{plain_intrinsic, plain_import_type}
+use Rattle.built_ins.specs.Payloads.{PayloadCall, named_call, called_payload}
 use Rattle.comp_roles.specs.CoreImports.{imports_from}
 use Rattle.comp_roles.specs.CoreTypes.{called_type}
 use Rattle.comp_roles.specs.declared.exports.Export.{Export}
@@ -34,34 +35,36 @@ use Rattle.comp_roles.specs.declared.imports.Import.TheVariants as imports
 use Rattle.comp_roles.specs.declared.imports.ImportInstance.{ImportInstance}
 use Rattle.comp_roles.specs.declared.imports.ImportInstance.TheVariants as instances
 use Rattle.comp_roles.specs.declared.libraries.MainOrAdapter.{MainOrAdapter}
+use Rattle.comp_roles.specs.declared.payloads.PayloadInfo.{PayloadInfo}
 use Rattle.comp_roles.specs.declared.offered.ExternType.{ExternType}
 use Rattle.comp_roles.specs.declared.offered.ExternType.TheVariants as externs
 use Rattle.comp_roles.specs.declared.offered.ImportType.{ImportType}
 use Rattle.world_values.specs.ExportForms.{IsFormed}
 use Rattle.world_values.specs.Items.{no_items, functions_of, functions_in, function_in, function_of_item, root_function_at}
-use Rattle.world_values.specs.Mentions.{interface_in, interfaces_of, same_interface}
+use Rattle.world_values.specs.Mentions.{interface_in, interfaces_of, same_interface, payload_in}
 use Rattle.comp_worlds.specs.Lookups.{found_module}
-use Rattle.comp_worlds.specs.Typed.{post_return_type, type_of_import, type_of_export, FitsRole, FitsImport, FitsExport}
+use Rattle.comp_worlds.specs.Typed.{post_return_type, type_of_built_in, type_of_import, type_of_export, FitsRole, FitsImport, FitsExport}
 use Rattle.comp_worlds.specs.WorldContents.{root_function, exported_item, core_name_in, keys_required}
-use Rattle.comp_worlds.specs.Worlds.{IsWorld, IsUserModule, IsImportItem, IsExportItem, IsResource, IsImportRole, IsImportGroup, IsNotOfMain, IsFirstGroup, IsOwnResource, IsOwnFunction, IsForOwnKey, ExportsFunctionOf, IsExportRole, IsRequired}
+use Rattle.comp_worlds.specs.Worlds.{IsWorld, IsUserModule, IsImportItem, IsExportItem, IsResource, IsBuiltInRole, IsImportRole, IsImportGroup, IsNotOfMain, IsFirstGroup, IsOwnResource, IsOwnFunction, IsForOwnKey, ExportsFunctionOf, IsExportRole, IsRequired}
 use Rattle.comp_worlds.specs.Uses.{imports_of}
 use Rattle.comp_worlds.specs.WorldTables.{whole_of}
 use Rattle.comp_worlds.specs.declared.world.ValidatedModule.{ValidatedModule}
 use Rattle.comp_worlds.specs.declared.world.WorldAdapter.{WorldAdapter}
 use Rattle.comp_worlds.specs.declared.world.WorldParts.{WorldParts}
+use Rattle.comp_worlds.proofs.PayloadRoles.{called_in}
 use Rattle.comp_worlds.proofs.Roles.{role_right}
 use Rattle.record_core_types.specs.Asked.{imported_function, imported_interface, exported_function, exported_interface, function_of, exported_item as exported_there}
-use Rattle.record_core_types.specs.Guarantees.{IsCalled, IsLifted, IsKept}
+use Rattle.record_core_types.specs.Guarantees.{IsMetIf, IsCalled, IsLifted, IsKept}
 use Rattle.record_resolve.specs.Resolved.{IsNamed, AreListed}
 use Rattle.supported_worlds.specs.Distinct.{are_apart}
 use Rattle.supported_worlds.specs.Kinds.{import_kind}
 use Rattle.std.proofs.lemmas.List.Elements.{Contains-append_left, Contains-append_right}
 use Rattle.supported_worlds.specs.Apart.{FieldsApart, GroupsApart, AreApart}
-use Rattle.supported_worlds.specs.LeftOut.{items_of, import_item_left_out, export_item_left_out, export_left_out, all_required, required_of, unless}
+use Rattle.supported_worlds.specs.LeftOut.{items_of, import_item_left_out, export_item_left_out, export_left_out, all_required, required_of, unless, built_in_left_out, own_payload_left_out}
 use Rattle.supported_worlds.specs.Links.{IsRoleLinked, IsTypeLinked, IsFromInstance, IsImportLinked, IsModuleLinked, AreLinked}
 use Rattle.supported_worlds.specs.Modules.{UserModule, main_of, module_of}
 use Rattle.supported_worlds.specs.Causes.{role_left_out, own_role_out}
-use Rattle.supported_worlds.specs.Placed.{places_of, is_resource, is_droppable, is_resource_at, is_required_at, is_own_resource, is_same_function, is_own_function}
+use Rattle.supported_worlds.specs.Placed.{places_of, is_resource, is_droppable, is_resource_at, is_required_at, is_own_resource, is_same_function, is_own_function, is_payload_placed, is_own_payload}
 use Rattle.supported_worlds.specs.Guarantees.{HasFoundImport, IsUsed, OffersExport, IsSoundModule, HasSoundParts}
 use Rattle.supported_worlds.proofs.Interfaces.{named_interface, own_are, other_key, one_found, entry_there, name_there as function_there, found_there}
 use Rattle.comp_roles.proofs.Firsts.{none_picked}
@@ -69,6 +72,7 @@ use Rattle.supported_worlds.proofs.Lists.{nothing, at_front, after}
 use Rattle.supported_worlds.proofs.InPlace.{both, resource_kind}
 use Rattle.supported_worlds.proofs.Order.{passes}
 use Rattle.supported_worlds.proofs.OwnRoles.{owned_type, required_at, required_key}
+use Rattle.supported_worlds.proofs.PayloadRoles.{payload_right}
 use Rattle.supported_worlds.proofs.Reporting.{group_out, own_group_out, own_pass, IsModuleEncoded, IsAdapterEncoded, IsEncoded}
 use Rattle.supported_worlds.proofs.Fresh.{distinct}
 use Rattle.supported_worlds.proofs.Keys.{second_apart, are_once}
@@ -298,6 +302,18 @@ module _ (p : WorldParts) (present : HasSoundParts p) (linked : AreLinked p) (en
   own_function owed known key None f h = root_function_own key f (passes (is_own_function p.resolve (items_of p).exports (required_of (items_of p).exports owed) key None f) (codes "task-return") h)
   own_function owed known key (Some id) f h = interface_function_own owed known key id f (passes (is_own_function p.resolve (items_of p).exports (required_of (items_of p).exports owed) key (Some id) f) (codes "task-return") h)
 
+  -- a built-in function, of a stream or a future or of no type
+  built_in_role : (owed : List WorldKey) → AreKnown p owed → (role : Import) (o : Option PayloadInfo) → called_payload role ≡ o → built_in_left_out p.resolve.types (places_of p.resolve.types (items_of p).imports) (length (items_of p).imports) role o ≡ None →
+      own_payload_left_out p.resolve (items_of p).exports (required_of (items_of p).exports owed) role o ≡ None → IsMetIf p.resolve p.world (payload_in role) → IsBuiltInRole (whole_of p) role o
+  built_in_role owed known role (Some q) is h own met =
+      let es = (items_of p).exports in
+      let places = places_of p.resolve.types (items_of p).imports in
+      let root = length (items_of p).imports in
+      let required = required_of es owed in
+      payload_right p places root required exported_is (λ key id there. known key (required_key es owed key id exports_apart there)) q (subst (IsMetIf p.resolve p.world) (called_in role q is) met)
+      (passes (is_payload_placed p.resolve.types places root q) (import_kind role) h) (passes (is_own_payload p.resolve es required q) (import_kind role) own)
+  built_in_role owed known role None is h own met = passes (is_some (plain_intrinsic true role)) (import_kind role) h
+
   import_role : (owed : List WorldKey) → AreKnown p owed → (role : Import) → role_left_out p role ≡ None → own_role_out p owed role ≡ None → IsCalled p.resolve p.world role → IsRoleLinked (whole_of p) role → IsImportRole (whole_of p) role
   import_role owed known (imports.WorldFunc (keys.Name text) name GuestImport) h own called there =
       (name_there text (items_of p).imports (subst (λ (o : Option Function). IsSome o) (imported_is (keys.Name text)) called.1), called.0, tt)
@@ -326,7 +342,7 @@ module _ (p : WorldParts) (present : HasSoundParts p) (linked : AreLinked p) (en
   import_role owed known (imports.Item item) h own called there = there
   import_role owed known (imports.WorldFunc (keys.Name text) name abi) h own called there = nothing _ h
   import_role owed known (imports.InterfaceFunc key id name abi) h own called there = nothing _ h
-  import_role owed known role h own called there = passes (is_some (plain_intrinsic true role)) (import_kind role) h
+  import_role owed known role h own called there = built_in_role owed known role (called_payload role) refl h own called
 
   for_own_key : (owed : List WorldKey) (role : Import) → own_role_out p owed role ≡ None → IsForOwnKey owed role
   for_own_key owed (imports.ExportedResourceDrop key id) h = own_key owed key id (codes "exported-drop") h
@@ -421,6 +437,11 @@ module _ (p : WorldParts) (present : HasSoundParts p) (linked : AreLinked p) (en
   abbrev IsOfType : Import → ExternType → Type 0
   IsOfType role type = (ty : ExternType) → type_of_import p.resolve (items_of p) role ≡ Some ty → ty ≡ type
 
+  -- a built-in function has a core type
+  built_in_typed : (role : Import) (o : Option PayloadCall) → IsBuiltInRole (whole_of p) role (option_map (λ (c : PayloadCall). c.info) o) → IsSome (type_of_built_in role o)
+  built_in_typed role (Some c) h = refl
+  built_in_typed role None h = mapped_there externs.Func (plain_import_type role) (plain_typed true role h)
+
   fits_role : (role : Import) (type : ExternType) → IsImportRole (whole_of p) role → IsOfType role type → IsTypeLinked (whole_of p) role type → FitsRole (whole_of p) role type
   fits_role (imports.WorldFunc (keys.Name text) function abi) type h fits there =
       of_type (type_of_import p.resolve (items_of p) (imports.WorldFunc (keys.Name text) function abi)) type
@@ -442,7 +463,7 @@ module _ (p : WorldParts) (present : HasSoundParts p) (linked : AreLinked p) (en
   fits_role (imports.AdapterExport adapter name function) type h fits there = of_type (type_of_import p.resolve (items_of p) (imports.AdapterExport adapter name function)) type refl fits
   fits_role (imports.Item item) type h fits there = there
   fits_role (imports.WorldFunc (keys.Interface other) function abi) type h fits there = absurd (true≢false (sym h))
-  fits_role role type h fits there = of_type (type_of_import p.resolve (items_of p) role) type (mapped_there externs.Func (plain_import_type role) (plain_typed true role h)) fits
+  fits_role role type h fits there = of_type (type_of_import p.resolve (items_of p) role) type (built_in_typed role (named_call role) h) fits
 
   found_import : (m : ValidatedModule) → AllByRecursion (IsImportGroup (whole_of p)) m.imports.modules → (i : ImportType) → HasFoundImport p.resolve (items_of p) m i → IsImportLinked (whole_of p) m i → FitsImport (whole_of p) m i
   found_import m groups i (inl h) there =

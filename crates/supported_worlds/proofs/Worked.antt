@@ -1,5 +1,5 @@
 -- What is left out of some worlds, worked out.
-use Rattle.std.proofs.Common.{false, ◌≡◌, ℕ, List, [], ◌∷◌, ◌++◌, map, Option, Some, None, refl}
+use Rattle.std.proofs.Common.{Bool, true, false, ◌≡◌, ℕ, List, [], ◌∷◌, ◌++◌, map, Option, Some, None, refl}
 use Rattle.std.specs.Prelude.{codes, replicate}
 use Rattle.standard_kinds.specs.declared.kinds.Primitive.TheVariants as prims
 use Rattle.standard_kinds.specs.declared.kinds.ExportKind.TheVariants as given
@@ -28,6 +28,7 @@ use Rattle.wit_data.specs.Values.{values_from}
 use Rattle.comp_roles.specs.declared.exports.Export.TheVariants as exports
 use Rattle.comp_roles.specs.declared.imports.Import.TheVariants as imports
 use Rattle.comp_roles.specs.declared.payloads.PayloadInfo.{PayloadInfo}
+use Rattle.comp_roles.specs.declared.payloads.PayloadType.TheVariants as payload_types
 use Rattle.comp_roles.specs.declared.imports.ImportInstance.TheVariants as instances
 use Rattle.comp_roles.specs.declared.libraries.Item.{Item}
 use Rattle.comp_roles.specs.declared.libraries.MainOrAdapter.TheVariants as modules
@@ -529,9 +530,38 @@ task_return_of_another_is_reported = refl
 task_return_of_none_is_reported : own_role_left_out (resolve_of [] []) one_exported [] (imports.ExportedTaskReturn (keys.Name (codes "g")) None a_function) ≡ Some (codes "task-return")
 task_return_of_none_is_reported = refl
 
+-- streams and futures: without a type of their elements, of an imported function, and of an exported one
+abbrev unit_stream : PayloadInfo
+unit_stream = record { name = codes "s"; ty = payload_types.UnitStream; key = None; interface = None; imported = false }
+
+abbrev met_in : Bool → WorldKey → PayloadInfo
+met_in imported key = record { name = codes "s"; ty = payload_types.Typed a_type (codes "f"); key = Some key; interface = None; imported = imported }
+
+unit_stream_is_encoded : import_left_out [] [] 0 (imports.StreamNew unit_stream) ≡ None
+unit_stream_is_encoded = refl
+
+imported_stream_is_encoded : import_left_out (unnamed (kinds.Stream None) ∷ []) (0 ∷ []) 0 (imports.StreamDropReadable (met_in true f)) ≡ None
+imported_stream_is_encoded = refl
+
+-- so may it be read
+read_stream_is_encoded : import_left_out (unnamed (kinds.Stream None) ∷ []) (0 ∷ []) 0 (imports.StreamRead (met_in true f) true) ≡ None
+read_stream_is_encoded = refl
+
+stream_behind_the_root_is_reported : import_left_out (unnamed (kinds.Stream None) ∷ []) (1 ∷ []) 0 (imports.StreamDropReadable (met_in true f)) ≡ Some (codes "stream-drop-readable")
+stream_behind_the_root_is_reported = refl
+
+stream_of_values_is_reported : import_left_out (unnamed (kinds.«List» (Primitive prims.U8)) ∷ []) (0 ∷ []) 0 (imports.StreamNew (met_in true f)) ≡ Some (codes "stream-new")
+stream_of_values_is_reported = refl
+
+future_of_an_export_is_encoded : own_role_left_out (resolve_of (unnamed (kinds.Future None) ∷ []) []) one_exported [] (imports.FutureCancelWrite (met_in false f) false) ≡ None
+future_of_an_export_is_encoded = refl
+
+future_of_no_export_is_reported : own_role_left_out (resolve_of (unnamed (kinds.Future None) ∷ []) []) one_exported [] (imports.FutureCancelWrite (met_in false (keys.Name (codes "g"))) false) ≡ Some (codes "future-cancel-write")
+future_of_no_export_is_reported = refl
+
 -- of the imports from one module the first that is left out is reported
-first_field_is_reported : (p : PayloadInfo) → group_left_out [] [] 0 (codes "$root", instances.Names ((codes "f", imports.WorldFunc f (codes "f") GuestImport) ∷ (codes "w", imports.WaitableSetWait) ∷ (codes "s", imports.StreamNew p) ∷ (codes "n", imports.FutureNew p) ∷ [])) ≡ Some (codes "stream-new")
-first_field_is_reported p = refl
+first_field_is_reported : group_left_out [] [] 0 (codes "$root", instances.Names ((codes "f", imports.WorldFunc f (codes "f") GuestImport) ∷ (codes "w", imports.WaitableSetWait) ∷ (codes "s", imports.StreamNew (met_in true f)) ∷ (codes "n", imports.FutureNew (met_in true f)) ∷ [])) ≡ Some (codes "stream-new")
+first_field_is_reported = refl
 
 whole_is_encoded : group_left_out [] [] 0 (codes "m", instances.Whole modules.Main) ≡ None
 whole_is_encoded = refl

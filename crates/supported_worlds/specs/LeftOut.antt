@@ -4,11 +4,12 @@
 -- that it imports, in their order and with all resources of the root among them, core imports and
 -- exports with the role of such a function, core imports that drop a resource, or make or read a
 -- handle of one that their module has to export, or return from a function that is exported, or are
--- a wait, a function of error contexts, main's memory, an export of main, a function that an adapter
--- exports, an item of an argument of a library, a built-in function without operands or a function of
--- the thread-local base, and core exports that are a post-return, a callback, a destructor, a memory or
--- a realloc; of main, of adapters and of libraries. All else is left out, and reported by the name of
--- its kind. (The names are those of this project's record.)
+-- a wait, a function of error contexts, one of a stream or a future, main's
+-- memory, an export of main, a function that an adapter exports, an item of an argument of a library,
+-- a built-in function without operands or a function of the thread-local base, and core exports that
+-- are a post-return, a callback, a destructor, a memory or a realloc; of main, of adapters and of
+-- libraries. All else is left out, and reported by the name of its kind. (The names are those of this
+-- project's record.)
 use Rattle.std.specs.Prelude.{ℕ, Bool, true, ◌++◌, List, length, codes, Option, Some, None, Result, Ok, Err, get_or, is_some, if◌then◌else◌}
 use Rattle.std.specs.List.{flat_map}
 use Rattle.std.specs.Map.{lookup}
@@ -24,6 +25,7 @@ use Rattle.wit_data.specs.declared.worlds.WorldItem.TheVariants as items
 use Rattle.wit_data.specs.declared.worlds.WorldKey.{WorldKey}
 use Rattle.wit_data.specs.declared.worlds.WorldKey.TheVariants as keys
 use Rattle.built_ins.specs.BuiltIns.{plain_intrinsic}
+use Rattle.built_ins.specs.Payloads.{called_payload}
 use Rattle.comp_roles.specs.Lookups.{first_some}
 use Rattle.comp_roles.specs.declared.exports.Export.{Export}
 use Rattle.comp_roles.specs.declared.exports.Export.TheVariants as exports
@@ -31,6 +33,7 @@ use Rattle.comp_roles.specs.declared.imports.Import.{Import}
 use Rattle.comp_roles.specs.declared.imports.Import.TheVariants as imports
 use Rattle.comp_roles.specs.declared.imports.ImportInstance.{ImportInstance}
 use Rattle.comp_roles.specs.declared.imports.ImportInstance.TheVariants as instances
+use Rattle.comp_roles.specs.declared.payloads.PayloadInfo.{PayloadInfo}
 use Rattle.world_values.specs.Items.{no_items, functions_of}
 use Rattle.world_values.specs.Mentions.{same_interface, interfaces_of}
 use Rattle.comp_worlds.specs.Encodable.{Entries}
@@ -46,7 +49,7 @@ use Rattle.record_faults.specs.declared.fault.Refusal.TheVariants as refusals
 use Rattle.supported_worlds.specs.Distinct.{are_apart}
 use Rattle.supported_worlds.specs.Kinds.{import_kind, export_kind}
 use Rattle.supported_worlds.specs.Naming.{are_exports_named}
-use Rattle.supported_worlds.specs.Placed.{places_of, is_world_placed, imported_numbers, are_in_place, is_droppable, is_own_resource, is_own_function, is_resource_at}
+use Rattle.supported_worlds.specs.Placed.{places_of, is_world_placed, imported_numbers, are_in_place, is_droppable, is_own_resource, is_own_function, is_resource_at, is_payload_placed, is_own_payload}
 
 -- ---- items of a world
 
@@ -105,11 +108,17 @@ resources_left_out types entries = unless (are_in_place types 0 (imported_number
 
 -- ---- roles
 
+-- a built-in function of a stream or a future, unless that has its place; another one, unless it is of no type, or one of
+-- the thread-local base
+abbrev pub built_in_left_out : List TypeDef → List ℕ → ℕ → Import → Option PayloadInfo → Option (List ℕ)
+built_in_left_out types places root role (Some p) = unless (is_payload_placed types places root p) (import_kind role)
+built_in_left_out types places root role None = unless (is_some (plain_intrinsic true role)) (import_kind role)
+
 -- an import of a module, unless it is a function at the root or of an interface, or drops a
 -- resource, by the places of the types, and that of the root; or has a role that an exported
 -- resource or an exported function may have; or is a wait, a function of error contexts, main's
--- memory, an export of main, a function that an adapter exports, an item of an argument, a built-in
--- function without operands, or a function of the thread-local base
+-- memory, an export of main, a function that an adapter exports, an item of an argument, or such a
+-- built-in function
 abbrev pub import_left_out : List TypeDef → List ℕ → ℕ → Import → Option (List ℕ)
 import_left_out types places root (imports.WorldFunc (keys.Name text) name GuestImport) = None
 import_left_out types places root (imports.WorldFunc (keys.Name text) name GuestImportAsync) = None
@@ -128,16 +137,21 @@ import_left_out types places root (imports.MainModuleMemory type) = None
 import_left_out types places root (imports.MainModuleExport name kind) = None
 import_left_out types places root (imports.AdapterExport adapter name type) = None
 import_left_out types places root (imports.Item item) = None
-import_left_out types places root role = unless (is_some (plain_intrinsic true role)) (import_kind role)
+import_left_out types places root role = built_in_left_out types places root role (called_payload role)
+
+-- a built-in function of a stream or a future, unless that is one of a function that is imported, or exported at its key
+abbrev pub own_payload_left_out : Resolve → Entries → List InterfaceId → Import → Option PayloadInfo → Option (List ℕ)
+own_payload_left_out r es required role (Some p) = unless (is_own_payload r es required p) (import_kind role)
+own_payload_left_out r es required role None = None
 
 -- such a role, unless it is of a resource of an interface that the module has to export at the key;
--- and `task.return`, unless it is of a function that is exported at the key
+-- `task.return`, unless it is of a function that is exported at the key; and such a built-in function
 abbrev pub own_role_left_out : Resolve → Entries → List InterfaceId → Import → Option (List ℕ)
 own_role_left_out r es required (imports.ExportedResourceDrop key id) = unless (is_own_resource r.types es required key id) (codes "exported-drop")
 own_role_left_out r es required (imports.ExportedResourceRep key id) = unless (is_own_resource r.types es required key id) (codes "exported-rep")
 own_role_left_out r es required (imports.ExportedResourceNew key id) = unless (is_own_resource r.types es required key id) (codes "exported-new")
 own_role_left_out r es required (imports.ExportedTaskReturn key interface f) = unless (is_own_function r es required key interface f) (codes "task-return")
-own_role_left_out r es required role = None
+own_role_left_out r es required role = own_payload_left_out r es required role (called_payload role)
 
 -- an export of a module, unless it is a function at the root or of an interface in one of the forms
 -- of exports, the post-return or the callback of one, the destructor of a resource, a memory, or a
@@ -170,7 +184,7 @@ instance_left_out types places root (instances.Whole which) = None
 abbrev pub group_left_out : List TypeDef → List ℕ → ℕ → List ℕ × ImportInstance → Option (List ℕ)
 group_left_out types places root group = instance_left_out types places root group.1
 
--- the first such role of an exported resource that is left out
+-- the first such role that is left out
 abbrev pub own_instance_left_out : Resolve → Entries → List InterfaceId → ImportInstance → Option (List ℕ)
 own_instance_left_out r es required (instances.Names fields) = first_some (λ f. own_role_left_out r es required f.1) fields
 own_instance_left_out r es required (instances.Whole which) = None

@@ -26,9 +26,13 @@ use Rattle.wit_data.specs.Keys.{is_same_key}
 use Rattle.wit_data.specs.Live.{named_types}
 use Rattle.wit_data.specs.Parts.{parts}
 use Rattle.wit_data.specs.Values.{kind_at, values}
+use Rattle.comp_roles.specs.declared.payloads.PayloadInfo.{PayloadInfo}
+use Rattle.comp_roles.specs.declared.payloads.PayloadType.{PayloadType}
+use Rattle.comp_roles.specs.declared.payloads.PayloadType.TheVariants as payloads
 use Rattle.world_values.specs.Items.{functions_of, root_function_at}
 use Rattle.world_values.specs.Mentions.{interface_types, interface_in, same_interface}
 use Rattle.comp_worlds.specs.Encodable.{Entries, place_in, placing, is_resource_kind, is_lent, stays_in}
+use Rattle.comp_worlds.specs.Payloads.{is_payload_kind}
 use Rattle.comp_worlds.specs.WorldContents.{world_type, interface_of_owner, interface_at, name_at}
 
 -- ---- places
@@ -184,3 +188,34 @@ is_same_function = same_function.eq-value.it
 abbrev pub is_own_function : Resolve → Entries → List InterfaceId → WorldKey → Option InterfaceId → Function → Bool
 is_own_function r es required key None f = option_map_or (is_same_function f) (root_function_at es key) false
 is_own_function r es required key (Some id) f = is_required_at es required key id && option_map_or (is_same_function f) (found f.name (functions_of r id)) false
+
+-- ---- streams and futures
+
+-- whether a type is a stream or a future
+abbrev pub is_payload : TypeDef → Bool
+is_payload t = is_payload_kind t.kind
+
+abbrev pub is_payload_at : List TypeDef → TypeId → Bool
+is_payload_at types id = option_map_or is_payload (slice_get types id.index) false
+
+-- whether the type of a stream or a future is one; of an imported function, it has the place of the root or an earlier one
+abbrev pub is_payload_type : List TypeDef → List ℕ → ℕ → (imported : Bool) → PayloadType → Bool
+is_payload_type types places root imported (payloads.Typed id name) = is_payload_at types id && (not imported || nat_le (get_or places id.index 0) root)
+is_payload_type types places root imported unit = true
+
+abbrev pub is_payload_placed : List TypeDef → List ℕ → ℕ → PayloadInfo → Bool
+is_payload_placed types places root p = is_payload_type types places root p.imported p.ty
+
+-- whether the world exports a function of this name at a key: at its root, or in this interface,
+-- which is one of those that have to be exported
+abbrev pub is_exported_function : Resolve → Entries → List InterfaceId → WorldKey → Option InterfaceId → List ℕ → Bool
+is_exported_function r es required key None name = is_some (root_function_at es key)
+is_exported_function r es required key (Some id) name = is_required_at es required key id && is_some (found name (functions_of r id))
+
+abbrev pub is_exported_payload : Resolve → Entries → List InterfaceId → Option WorldKey → Option InterfaceId → PayloadType → Bool
+is_exported_payload r es required key interface (payloads.Typed id name) = option_map_or (λ k. is_exported_function r es required k interface name) key false
+is_exported_payload r es required key interface unit = true
+
+-- whether there is the function of a stream or a future, unless it is one of an imported function
+abbrev pub is_own_payload : Resolve → Entries → List InterfaceId → PayloadInfo → Bool
+is_own_payload r es required p = p.imported || is_exported_payload r es required p.key p.interface p.ty

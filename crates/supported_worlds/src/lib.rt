@@ -28,8 +28,9 @@
 //! types), `homes` (which exported interfaces may be made of which types), `placed` (whether what a world
 //! imports is in that order, and what it exports is at home), `naming` (whether exported interfaces have
 //! names), `items` (what of a world's items is left out), `resources` (whether its resources are imported,
-//! and may be dropped), `roles` (what of a module's imports and exports), `owned` (the roles of resources of
-//! exported interfaces), `modules` (what of main and of the adapters), `encoding` (the world).
+//! and may be dropped), `payloads` (which streams and futures are encoded), `roles` (what of a module's
+//! imports and exports), `owned` (the roles of resources of exported interfaces, and of exported functions),
+//! `modules` (what of main and of the adapters), `encoding` (the world).
 #![tactic(auto)]
 
 mod encoding;
@@ -40,6 +41,7 @@ mod lent;
 mod modules;
 mod naming;
 mod owned;
+mod payloads;
 mod placed;
 mod places;
 mod resources;

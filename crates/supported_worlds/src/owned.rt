@@ -8,15 +8,19 @@ ghost use Rattle.std.specs.Option.{option_copied, option_map_or};
 ghost use Rattle.comp_roles.specs.Lookups.{first_some};
 ghost use Rattle.world_values.specs.Mentions.{same_interface};
 ghost use Rattle.comp_worlds.specs.WorldContents.{interface_of_owner};
-ghost use Rattle.supported_worlds.specs.LeftOut.{unless, required_of, own_role_left_out, own_instance_left_out, own_group_left_out, own_left_out};
+ghost use Rattle.supported_worlds.specs.LeftOut.{unless, required_of, own_payload_left_out, own_role_left_out, own_instance_left_out, own_group_left_out, own_left_out};
 ghost use Rattle.supported_worlds.specs.Distinct.{are_apart};
+ghost use Rattle.built_ins.specs.Payloads.{called_payload};
 ghost use Rattle.comp_lists.specs.Found.{found};
 ghost use Rattle.world_values.specs.Items.{functions_of};
 ghost use Rattle.supported_worlds.specs.Placed.{is_required_at, is_own_at, is_own_resource, is_same_function, is_own_function};
 
+use crate::kinds::import_kind;
+use crate::payloads::is_own_payload;
 use crate::placed::interface_of_owner;
 use crate::resources::is_resource;
 use crate::sets::{exported_at, required_set};
+use built_ins::called_payload;
 use comp_lists::{Keyed, Text};
 use comp_roles::{Import, ImportInstance};
 use comp_worlds::ValidatedModule;
@@ -33,7 +37,7 @@ fn is_required(required: &Keyed<InterfaceId, ()>, id: InterfaceId) -> bool
 }
 
 /// Whether an interface is exported at a key, and the module has to export it.
-fn is_required_at(
+pub(crate) fn is_required_at(
     exports: &Keyed<WorldKey, WorldItem>,
     required: &Keyed<InterfaceId, ()>,
     key: &WorldKey,
@@ -171,6 +175,30 @@ fn unless_exported(
     }
 }
 
+/// A built-in function of a stream or a future, unless that is one of a function that is imported, or
+/// exported at its key.
+fn own_payload_left_out(
+    resolve: &Resolve,
+    exports: &Keyed<WorldKey, WorldItem>,
+    required: &Keyed<InterfaceId, ()>,
+    role: &Import,
+) -> Option<&'static str>
+    ensures { option_copied result
+        ≡ own_payload_left_out resolve.now exports.now (keys_of required.now) role.now
+        (called_payload role.now) }
+{
+    match called_payload(role) {
+        Some(info) => {
+            if is_own_payload(resolve, exports, required, info) {
+                None
+            } else {
+                Some(import_kind(role))
+            }
+        }
+        None => None,
+    }
+}
+
 fn own_role_left_out(
     resolve: &Resolve,
     exports: &Keyed<WorldKey, WorldItem>,
@@ -194,7 +222,7 @@ fn own_role_left_out(
         Import::ExportedTaskReturn(key, interface, function) => {
             unless_exported(resolve, exports, required, key, *interface, function)
         }
-        _ => None,
+        _ => own_payload_left_out(resolve, exports, required, role),
     }
 }
 

@@ -6,18 +6,20 @@ ghost use Rattle.std.specs.Map.{keys_of};
 ghost use Rattle.std.specs.Option.{option_copied};
 ghost use Rattle.std.specs.Str.{bytes_eq};
 ghost use Rattle.built_ins.specs.BuiltIns.{plain_intrinsic};
+ghost use Rattle.built_ins.specs.Payloads.{called_payload};
 ghost use Rattle.comp_roles.specs.Lookups.{first_some};
 ghost use Rattle.supported_worlds.specs.Kinds.{import_kind};
 ghost use Rattle.supported_worlds.specs.Apart.{FieldsApart, GroupsApart};
-ghost use Rattle.supported_worlds.specs.LeftOut.{unless, import_left_out, export_left_out, instance_left_out, group_left_out, roles_left_out};
-ghost use Rattle.supported_worlds.specs.Placed.{is_droppable, is_resource_at};
+ghost use Rattle.supported_worlds.specs.LeftOut.{unless, built_in_left_out, import_left_out, export_left_out, instance_left_out, group_left_out, roles_left_out};
+ghost use Rattle.supported_worlds.specs.Placed.{is_droppable, is_resource_at, is_payload_placed};
 
 use crate::kinds::{export_kind, import_kind};
+use crate::payloads::is_payload_placed;
 use crate::places::Places;
 use crate::resources::{is_droppable, is_resource_at};
-use built_ins::plain_intrinsic;
+use built_ins::{called_payload, plain_intrinsic};
 use comp_lists::{Keyed, Text};
-use comp_roles::{Export, Import, ImportInstance};
+use comp_roles::{Export, Import, ImportInstance, PayloadInfo};
 use comp_worlds::ValidatedModule;
 use wit_data::{AbiVariant, TypeDef, TypeId, WorldKey};
 
@@ -36,13 +38,43 @@ fn drop_left_out(types: &[TypeDef], places: &Places, id: TypeId) -> Option<&'sta
 
 /// A role of another kind, unless it is a built-in function without operands, or one of the
 /// thread-local base, which has such a function where context slot 1 can be used.
-fn built_in_left_out(role: &Import) -> Option<&'static str>
+fn plain_left_out(role: &Import) -> Option<&'static str>
     ensures { option_copied result ≡
         unless (is_some (plain_intrinsic true role.now)) (import_kind role.now) }
 {
     match plain_intrinsic(true, role) {
         Some(_) => None,
         None => Some(import_kind(role)),
+    }
+}
+
+/// A built-in function of a stream or a future, unless that has its place.
+fn payload_left_out(
+    types: &[TypeDef],
+    places: &Places,
+    role: &Import,
+    info: &PayloadInfo,
+) -> Option<&'static str>
+    ensures { option_copied result
+        ≡ unless (is_payload_placed types.now places.now.types places.now.interfaces.root info.now)
+        (import_kind role.now) }
+{
+    if is_payload_placed(types, places.types.as_slice(), places.interfaces.root, info) {
+        None
+    } else {
+        Some(import_kind(role))
+    }
+}
+
+/// A built-in function of a stream or a future, or a role of another kind.
+fn built_in_left_out(types: &[TypeDef], places: &Places, role: &Import) -> Option<&'static str>
+    ensures { option_copied result
+        ≡ built_in_left_out types.now places.now.types places.now.interfaces.root role.now
+        (called_payload role.now) }
+{
+    match called_payload(role) {
+        Some(info) => payload_left_out(types, places, role, info),
+        None => plain_left_out(role),
     }
 }
 
@@ -68,7 +100,7 @@ fn import_left_out(types: &[TypeDef], places: &Places, role: &Import) -> Option<
         | Import::MainModuleExport { .. }
         | Import::Item(_)
         | Import::AdapterExport { .. } => None,
-        _ => built_in_left_out(role),
+        _ => built_in_left_out(types, places, role),
     }
 }
 

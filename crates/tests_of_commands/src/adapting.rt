@@ -9,7 +9,7 @@ use std::test::Fail;
 
 /// The line for arguments that are not those of the program.
 const USAGE: &str =
-    "usage: component_new new OUT MAIN [options] | record OUT MODULE | defs FILE | links FILE | explain CODE\n";
+    "usage: component_new new OUT MAIN [options] | lint MAIN [options] | record OUT MODULE | defs FILE | links FILE | explain CODE\n";
 
 /// The store of these runs.
 fn store_of(alloc: Global) -> Result<Files, AllocError> {

@@ -5,13 +5,15 @@
 //! In reading order: `modules` (modules, and their components), `store` (a store in memory, and
 //! writers that fail), `rows` (modules through the encoder's calls), `canonical` (canonical names
 //! of worlds), `runs` (runs of the commands), `adapting` (runs with adapters), `recording` (runs that
-//! put a module with its record).
+//! put a module with its record), `linting` (runs that print warnings).
 #![tactic(auto)]
 
 #[cfg(test)]
 mod adapting;
 #[cfg(test)]
 mod canonical;
+#[cfg(test)]
+mod linting;
 #[cfg(test)]
 mod modules;
 #[cfg(test)]

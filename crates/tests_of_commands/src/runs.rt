@@ -49,7 +49,7 @@ fn refused(alloc: Global, calls: u32, fault: StoreFault) -> Result<Answer, Alloc
 #[test]
 fn wrong_arguments_are_reported_before_anything_is_read(rt: HostRuntime) {
     let alloc = rt.alloc();
-    let wrong: [&[&str]; 25] = [
+    let wrong: [&[&str]; 30] = [
         &[],
         &["--Help"],
         &["--help", "--version"],
@@ -75,6 +75,11 @@ fn wrong_arguments_are_reported_before_anything_is_read(rt: HostRuntime) {
         &["explain"],
         &["explain", "P99"],
         &["explain", "P9", "P10"],
+        &["lint"],
+        &["lint", "main.wasm", "--validate"],
+        &["lint", "main.wasm", "b.wasm"],
+        &["lint", "main.wasm", "--adapt"],
+        &["lint", "main.wasm", "--adapt", "a"],
     ];
     for words in wrong {
         let mut store = Files::new(alloc, "main.wasm", EMPTY).expect(&rt, "memory");
@@ -82,7 +87,7 @@ fn wrong_arguments_are_reported_before_anything_is_read(rt: HostRuntime) {
         assert_eq!(rt; answer.status, 2);
         assert_eq!(rt;
             answer.err.as_slice(),
-            b"usage: component_new new OUT MAIN [options] | record OUT MODULE | defs FILE | links FILE | explain CODE\n".as_slice()
+            b"usage: component_new new OUT MAIN [options] | lint MAIN [options] | record OUT MODULE | defs FILE | links FILE | explain CODE\n".as_slice()
         );
         assert!(rt; answer.out.is_empty() && store.log.is_empty());
     }
@@ -358,8 +363,8 @@ fn nothing_is_reported_where_nobody_reads_the_output(rt: HostRuntime) -> Result<
 fn help_and_version_are_printed(rt: HostRuntime) -> Result<(), Fail> {
     let alloc = rt.alloc();
     let help =
-        "usage: component_new new OUT MAIN [options] | record OUT MODULE | defs FILE | links FILE | explain CODE\n\
-        \x20 --adapt NAME=FILE  new: add the adapter in FILE under this name; any number of times\n\
+        "usage: component_new new OUT MAIN [options] | lint MAIN [options] | record OUT MODULE | defs FILE | links FILE | explain CODE\n\
+        \x20 --adapt NAME=FILE  new, lint: add the adapter in FILE under this name; any number of times\n\
         \x20 --canonical        new: have the canonical part of versions in names, and the rest as suffixes\n\
         \x20 --dot, --mermaid   links: print a graph, in the language of Graphviz or of Mermaid\n\
         \x20 --no-merge         new: don't merge imports of compatible versions\n\
@@ -431,7 +436,7 @@ fn an_argument_that_is_not_text_is_reported(rt: HostRuntime) -> Result<(), Fail>
         (&[b"\xed\xa0\x80"], "error: argument 1 is not UTF-8\n"),
         (
             &[b"new", b"\xc3\xa9"],
-            "usage: component_new new OUT MAIN [options] | record OUT MODULE | defs FILE | links FILE | explain CODE\n",
+            "usage: component_new new OUT MAIN [options] | lint MAIN [options] | record OUT MODULE | defs FILE | links FILE | explain CODE\n",
         ),
     ];
     for (arguments, line) in starts {

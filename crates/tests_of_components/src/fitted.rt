@@ -28,6 +28,15 @@ fn adapters_of(alloc: Global, input: &str) -> Result<Seq<NamedModule>, AllocErro
     Ok(adapters)
 }
 
+/// The modules of an input, the first of which is main.
+pub(crate) fn modules_of(alloc: Global, input: &str) -> Result<Modules, AllocError> {
+    let (_, rest) = options_and_rest(input);
+    let (main, _) = rest.split_once(" + ").unwrap_or((rest, ""));
+    let adapters = adapters_of(alloc, rest)?;
+    let main = Seq::from_vec(module_of(alloc, main)?);
+    Ok(Modules { main, adapters })
+}
+
 /// The component of modules, the first of which is given as main.
 fn component_of<L: Lower + Drop>(
     alloc: Global,
@@ -47,10 +56,8 @@ fn component_of<L: Lower + Drop>(
 
 /// The component of the modules of an input as they are fitted, or the fault, as text.
 pub(crate) fn answer(alloc: Global, input: &str) -> Result<String, AllocError> {
-    let (options, rest) = options_and_rest(input);
-    let (main, _) = rest.split_once(" + ").unwrap_or((rest, ""));
-    let adapters = adapters_of(alloc, rest)?;
-    let main = Seq::from_vec(module_of(alloc, main)?);
+    let (options, _) = options_and_rest(input);
+    let Modules { main, adapters } = modules_of(alloc, input)?;
     match fit_modules(alloc, main, adapters) {
         Ok(modules) => text_of(
             alloc,

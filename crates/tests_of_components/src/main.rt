@@ -9,18 +9,20 @@
 //! NAME`. The answer is the component in hexadecimal digits, by the encoder over the lower layer by
 //! records, and in the files `packages.txt` and `fitted.txt` over that by packages; or the fault. In
 //! `fitted.txt` the modules are fitted first (`fitted_modules`); in `packages.txt` the component is made
-//! once more with records in the place of packages (`recorded_modules`), and has to be the same. `test_cases` says how the files are
+//! once more with records in the place of packages (`recorded_modules`), and has to be the same. In `warnings.txt` the answer
+//! is the warnings of the modules (`module_warnings`), with ` ; ` between two of them. `test_cases` says how the files are
 //! read; each says where its expected answers are from.
 //!
 //! In reading order: `inputs` (the modules and options of inputs), `components` (their components),
 //! `fitted` (those of modules that are fitted), `recorded` (those of modules with records in the place
-//! of packages).
+//! of packages), `warnings`.
 #![tactic(auto)]
 
 mod components;
 mod fitted;
 mod inputs;
 mod recorded;
+mod warnings;
 
 use components::answer_by;
 use plain_lower::PlainLower;
@@ -28,12 +30,13 @@ use std::alloc::{AllocError, Global};
 use std::process::ExitCode;
 use test_cases::{Topic, answer_files};
 
-/// What describes the components of the modules of a file, and whether these are fitted.
+/// What describes the components of the modules of a file, and whether these are fitted, or only looked at.
 #[derive(Clone, Copy)]
 enum Modules {
     Records,
     Packages,
     Fitted,
+    Warned,
 }
 
 impl Topic for Modules {
@@ -41,6 +44,7 @@ impl Topic for Modules {
         match name {
             "packages.txt" => Some(Modules::Packages),
             "fitted.txt" => Some(Modules::Fitted),
+            "warnings.txt" => Some(Modules::Warned),
             _ => Some(Modules::Records),
         }
     }
@@ -50,6 +54,7 @@ impl Topic for Modules {
             Modules::Records => answer_by(alloc, PlainLower::new(), input),
             Modules::Packages => recorded::answer(alloc, input),
             Modules::Fitted => fitted::answer(alloc, input),
+            Modules::Warned => warnings::answer(alloc, input),
         }
     }
 }

@@ -10,20 +10,19 @@ use Rattle.comp_roles.specs.CoreImports.{CoreImport}
 use Rattle.comp_roles.specs.declared.imports.NamedImport.{NamedImport}
 use Rattle.comp_roles.specs.declared.libraries.MainOrAdapter.{MainOrAdapter}
 use Rattle.comp_roles.specs.declared.libraries.MainOrAdapter.TheVariants as users
-use Rattle.world_values.specs.Mentions.{HasReturned}
 use Rattle.comp_worlds.proofs.Roles.{found-all}
 use Rattle.comp_worlds.specs.Lookups.{found_module}
 use Rattle.comp_worlds.specs.Uses.{imports_of}
 use Rattle.comp_worlds.specs.declared.world.ComponentWorld.{ComponentWorld}
 use Rattle.comp_worlds.specs.declared.world.ValidatedModule.{ValidatedModule}
 use Rattle.comp_worlds.specs.declared.world.WorldAdapter.{WorldAdapter}
-use Rattle.shim_plan.specs.Needed.{AreReturned, AreAllReturned}
+use Rattle.shim_plan.specs.Needed.{HasOwnTypes, AreReturned, AreAllReturned}
 
 abbrev Borrowed : Resolve → NamedImport → Type 0
-Borrowed r i = HasReturned r i.role.now
+Borrowed r i = HasOwnTypes r i.role.now
 
 abbrev Owned : Resolve → CoreImport → Type 0
-Owned r i = HasReturned r i.role
+Owned r i = HasOwnTypes r i.role
 
 to : (r : Resolve) (imports : List NamedImport) → AllByRecursion (Borrowed r) imports → AllByRecursion (Owned r) (map core_import imports)
 to r [] h = tt
@@ -35,16 +34,16 @@ from r (i ∷ is) h = (h.0, from r is h.1)
 
 -- the imports of a module, as they are borrowed from a list
 pub of_imports : (r : Resolve) (imports slice : List NamedImport) (all : List CoreImport) (b : Bool) → map core_import imports ≡ all → slice ≡ imports →
-    IsTrue b ↔ AllByRecursion (λ (i : NamedImport). HasReturned r i.role.now) slice → IsTrue b ↔ AllByRecursion (λ (i : CoreImport). HasReturned r i.role) all
+    IsTrue b ↔ AllByRecursion (λ (i : NamedImport). HasOwnTypes r i.role.now) slice → IsTrue b ↔ AllByRecursion (λ (i : CoreImport). HasOwnTypes r i.role) all
 of_imports r imports slice all b e same h =
     let of : IsTrue b ↔ AllByRecursion (Borrowed r) imports = subst (λ (xs : List NamedImport). IsTrue b ↔ AllByRecursion (Borrowed r) xs) same h in
     subst (λ (xs : List CoreImport). IsTrue b ↔ AllByRecursion (Owned r) xs) e (λ t. to r imports (of.0 t), λ a. of.1 (from r imports a))
 
 abbrev pub IsOwned : Resolve → ValidatedModule → Type 0
-IsOwned r m = AllByRecursion (λ (i : CoreImport). HasReturned r i.role) (imports_of m)
+IsOwned r m = AllByRecursion (λ (i : CoreImport). HasOwnTypes r i.role) (imports_of m)
 
 abbrev AreOwned : Resolve → List (List ℕ × WorldAdapter) → Type 0
-AreOwned r adapters = AllByRecursion (λ (a : List ℕ × WorldAdapter). AllByRecursion (λ (i : CoreImport). HasReturned r i.role) (imports_of a.1.info)) adapters
+AreOwned r adapters = AllByRecursion (λ (a : List ℕ × WorldAdapter). AllByRecursion (λ (i : CoreImport). HasOwnTypes r i.role) (imports_of a.1.info)) adapters
 
 each : (w : ComponentWorld) → IsOwned w.resolve w.main → AreOwned w.resolve w.adapters → AreAllReturned w
 each w main others users.Main = main

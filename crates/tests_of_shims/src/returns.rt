@@ -1,31 +1,47 @@
-//! Whether the functions whose results the imports of modules return are in the resolve.
+//! Whether the functions whose results the imports of modules return are in the resolve, and the types
+//! of what they read and write.
 
 ghost use Rattle.std.specs.Prelude.{◌↔◌, IsTrue, IfOk};
 ghost use Rattle.std.specs.List.{AllByRecursion};
 ghost use Rattle.wit_data.specs.Sound.{IsSound};
-ghost use Rattle.world_values.specs.Mentions.{HasReturned};
+ghost use Rattle.comp_options.specs.Known.{HasPayload};
 ghost use Rattle.comp_worlds.specs.Uses.{imports_of};
-ghost use Rattle.shim_plan.specs.Needed.{AreAllReturned};
+ghost use Rattle.shim_plan.specs.Needed.{HasOwnTypes, AreAllReturned};
 
 use comp_lists::{Keyed, Text};
-use comp_roles::{Import, NamedImport};
+use comp_roles::{Import, NamedImport, PayloadType};
 use comp_worlds::{ComponentWorld, ValidatedModule, WorldAdapter};
 use std::alloc::{AllocError, Global};
 use wit_data::Resolve;
 
-/// Whether the function that the role itself has is in the resolve.
+/// Whether a type that is a stream or a future is in the resolve.
+fn has_payload(resolve: &Resolve, ty: &PayloadType) -> bool
+    ensures { IsTrue result ↔ HasPayload resolve.now ty.now }
+{
+    match ty {
+        PayloadType::Typed { id, .. } => id.index < resolve.types.len(),
+        PayloadType::UnitFuture | PayloadType::UnitStream => true,
+    }
+}
+
+/// Whether the function that the role itself has, or the type of what it reads or writes, is in the
+/// resolve.
 fn has_returned(resolve: &Resolve, import: &Import) -> bool
-    ensures { IsTrue result ↔ HasReturned resolve.now import.now }
+    ensures { IsTrue result ↔ HasOwnTypes resolve.now import.now }
 {
     match import {
         Import::ExportedTaskReturn(_, _, function) => resolve.has_function(function),
+        Import::StreamRead { info, .. }
+        | Import::StreamWrite { info, .. }
+        | Import::FutureRead { info, .. }
+        | Import::FutureWrite { info, .. } => has_payload(resolve, &info.ty),
         _ => true,
     }
 }
 
 fn have_returned(resolve: &Resolve, imports: &[NamedImport<'_>]) -> bool
     ensures { IsTrue result
-        ↔ AllByRecursion (λ i. HasReturned resolve.now i.role.now) imports.now }
+        ↔ AllByRecursion (λ i. HasOwnTypes resolve.now i.role.now) imports.now }
 {
     for import in imports {
         if !has_returned(resolve, import.role) {
@@ -42,7 +58,7 @@ fn is_returned(
     found: &ValidatedModule,
 ) -> Result<bool, AllocError>
     ensures { IfOk result (λ all. IsTrue all
-        ↔ AllByRecursion (λ i. HasReturned resolve.now i.role) (imports_of found.now)) }
+        ↔ AllByRecursion (λ i. HasOwnTypes resolve.now i.role) (imports_of found.now)) }
 {
     let imports = found.imports.imports(alloc)?;
     Ok(have_returned(resolve, imports.as_slice()))
@@ -54,7 +70,7 @@ fn others_returned(
     adapters: &Keyed<Text, WorldAdapter>,
 ) -> Result<bool, AllocError>
     ensures { IfOk result (λ all. IsTrue all ↔ AllByRecursion (λ a.
-        AllByRecursion (λ i. HasReturned resolve.now i.role) (imports_of a.1.info))
+        AllByRecursion (λ i. HasOwnTypes resolve.now i.role) (imports_of a.1.info))
         adapters.now) }
 {
     for (_name, adapter) in adapters.iter() {

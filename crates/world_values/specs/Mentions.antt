@@ -51,6 +51,10 @@ resource_of (kinds.Constructor id) = Some (Id id)
 abbrev pub function_types : Function → List Ty
 function_types f = at_most_one (resource_of f.kind) ++ (map (λ p. p.ty) f.params ++ at_most_one f.result)
 
+-- of these, what it takes and returns
+abbrev pub passed_types : Function → List Ty
+passed_types f = map (λ p. p.ty) f.params ++ at_most_one f.result
+
 abbrev pub types_of_function : Option Function → List Ty
 types_of_function None = []
 types_of_function (Some f) = function_types f

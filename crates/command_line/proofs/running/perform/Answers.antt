@@ -8,6 +8,7 @@ use Rattle.command_line.proofs.Refusing.{without_memory}
 use Rattle.command_line.proofs.Steps.{nothing_happened, reported_text}
 use Rattle.command_line.proofs.Shown.{reported_linked}
 use Rattle.command_line.proofs.Supplying.{reported_made}
+use Rattle.command_line.proofs.Warning.{reported_linted as reported_warned}
 use Rattle.command_line.proofs.running.perform.Goals as goal
 
 pub returns-in-Ok-Some-New-clause-performed : goal.returns-in-Ok-Some-New-clause-performed
@@ -55,6 +56,17 @@ returns-in-Ok-Some-Explain-clause-performed g c =
     let printed : PrintsText text before after c.print.result = subst (λ (t : List ℕ). PrintsText t before after c.print.result) (c.as_bytes.ensures.value ∙ c.as_str.ensures) c.print.ensures in
     subst (λ request. Performed g.L.Lower c.args.lower request events events before after c.print.result) (sym asked)
     (record { events = []; happened = nothing_happened events; did = (refl, inl printed); counted = reported_text text before after c.print.result printed })
+
+pub returns-in-Ok-Some-Lint-clause-performed : goal.returns-in-Ok-Some-Lint-clause-performed
+returns-in-Ok-Some-Lint-clause-performed g c =
+    let main = c.in-Ok-Some-Lint.main in
+    let adapters = c.in-Ok-Some-Lint.adapters in
+    let linted = c.lint.ensures.linted in
+    let before = g.W.Write.contents c.args.out.now in
+    let after = g.W.Write.contents c.lint.new.out in
+    let asked : request_of (map string_bytes c.args.words.now) ≡ Some (requests.Lint main adapters) = search rules in
+    subst (λ request. Performed g.L.Lower c.args.lower request (g.S.Store.events c.args.store.now) (g.S.Store.events c.lint.new.store) before after c.lint.result) (sym asked)
+    (record { events = linted.0; happened = linted.1; did = linted.2; counted = reported_warned main adapters linted.0 before after c.lint.result linted.2 })
 
 pub returns-in-Ok-Some-Help-clause-performed : goal.returns-in-Ok-Some-Help-clause-performed
 returns-in-Ok-Some-Help-clause-performed g c =

@@ -1,6 +1,6 @@
 use Rattle.std.proofs.Common.{◌≡◌, [], ◌∷◌, Some, None, IsTrue, IsSome, refl, subst, sym}
 use Rattle.comp_bytes.specs.declared.space.Space.TheVariants.{CoreFunc}
-use Rattle.comp_links.specs.Links.{lower_needs, lower_options, lower_realloc}
+use Rattle.comp_links.specs.Links.{lower_needs, lower_options, role_realloc}
 use Rattle.comp_links.specs.Roles.{encoding_in, field_path, needs_encoding}
 use Rattle.comp_links.specs.Targets.{OfInterface, Lowered}
 use Rattle.comp_options.specs.Options.{needs}
@@ -118,7 +118,7 @@ returns-in_ok-lowered-in-None-clause-supplied c =
     let kind = lowering_kind (which_of (user_of u.which)) (Some c.args.key.now) c.args.function.now c.args.abi e in
     let encoded : encoding_in role u.found.now ≡ Some e = c.in_ok-encoding.ensures.ok in
     direct_supplied w s.valid u s.user i c.requires.present role c.requires.role e encoded kind refl (λ h. cc)
-    (subst (λ (r : Root). IsTrue (needs (lower_needs r.world.now c.args.import.now) 2) → IsSome (lower_realloc r.world.now (user_of u.which))) c.in_ok-index.ensures.same c.in_ok-lowered-in-None.ensures.realloc)
+    (subst (λ (r : Root). IsTrue (needs (lower_needs r.world.now c.args.import.now) 2) → IsSome (role_realloc r.world.now (user_of u.which) c.args.import.now)) c.in_ok-index.ensures.same c.in_ok-lowered-in-None.ensures.realloc)
 
 pub returns-in_err-lowered-in-None-clause-cause : goal.returns-in_err-lowered-in-None-clause-cause
 returns-in_err-lowered-in-None-clause-cause c =

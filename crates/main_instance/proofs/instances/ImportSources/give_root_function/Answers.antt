@@ -1,6 +1,6 @@
 use Rattle.std.proofs.Common.{◌≡◌, ℕ, List, [], ◌∷◌, Some, None, IsTrue, IsSome, refl, ap, subst, sym, rules}
 use Rattle.comp_bytes.specs.declared.space.Space.TheVariants.{CoreFunc}
-use Rattle.comp_links.specs.Links.{lower_needs, lower_options, lower_realloc}
+use Rattle.comp_links.specs.Links.{lower_needs, lower_options, role_realloc}
 use Rattle.comp_links.specs.Roles.{encoding_in, field_path, is_used, needs_encoding}
 use Rattle.comp_links.specs.Targets.{OfRoot, Lowered}
 use Rattle.comp_options.specs.Options.{needs}
@@ -121,7 +121,7 @@ returns-clause-supplied c =
     let kind = lowering_kind (which_of (user_of u.which)) None c.args.function.now c.args.abi e in
     let encoded : encoding_in role u.found.now ≡ Some e = search rules in
     direct_supplied w s.valid u s.user i c.requires.present role c.requires.role e encoded kind refl (λ h. cc)
-    (subst (λ (r : Root). IsTrue (needs (lower_needs r.world.now c.args.import.now) 2) → IsSome (lower_realloc r.world.now (user_of u.which))) c.in_ok-index.ensures.same c.in_ok-lowered-in-None.ensures.realloc)
+    (subst (λ (r : Root). IsTrue (needs (lower_needs r.world.now c.args.import.now) 2) → IsSome (role_realloc r.world.now (user_of u.which) c.args.import.now)) c.in_ok-index.ensures.same c.in_ok-lowered-in-None.ensures.realloc)
 
 pub returns-in_err-lowered-in-None-clause-cause : goal.returns-in_err-lowered-in-None-clause-cause
 returns-in_err-lowered-in-None-clause-cause c =

@@ -1,8 +1,8 @@
-use Rattle.std.proofs.Common.{Contains, ◌∙◌, ◌∷◌, [], true, true≢false, IsSome, refl, sym, ap, subst, rules}
+use Rattle.std.proofs.Common.{Contains, ◌∷◌, [], true, IsSome, refl, sym, ap, subst, rules}
 use Rattle.built_ins.specs.BuiltIns.{plain_intrinsic}
 use Rattle.comp_lists.proofs.Lists.{AllByRecursion-contains}
 use Rattle.comp_links.specs.Modules.{UserImport}
-use Rattle.comp_links.specs.Roles.{field_path, is_always_shimmed, is_main_memory}
+use Rattle.comp_links.specs.Roles.{field_path, is_main_memory}
 use Rattle.comp_worlds.specs.Bases.{base_of_role}
 use Rattle.comp_worlds.specs.Made.{modules_of_imports}
 use Rattle.comp_worlds.specs.Uses.{imports_of}
@@ -114,9 +114,6 @@ cell_setter-requires-clause-there c =
     let right : IsImportRole w (imports.TlsBaseSet it.ty) = subst (λ (role : Import). IsImportRole w role) it.is (import_role w (user_of u.which) u.found.now c.requires.sources.user.named c.requires.sources.valid i c.requires.present) in
     cell_there w i it.ty all (ap base_of_role it.is) (subst (λ (role : Import). IsSome (plain_intrinsic true role)) (sym it.is) right) c.requires.linked
 
-pub shim_of_function-requires-clause-planned : goal.shim_of_function-requires-clause-planned
-shim_of_function-requires-clause-planned c apart = absurd (true≢false (sym (ap is_always_shimmed c.in-ErrorContextDebugMessage.is) ∙ apart))
-
 pub returns-in_ok-index-in-TlsBaseGet-clause-made : goal.returns-in_ok-index-in-TlsBaseGet-clause-made
 returns-in_ok-index-in-TlsBaseGet-clause-made c =
     getter_given c.args.root.now.world.now (user_of c.args.self.now.user.which) c.cell_getter.new.root.items.defs c.in_ok-index-in-TlsBaseGet.index c.args.import.now c.in-TlsBaseGet.ty c.in-TlsBaseGet.is c.requires.linked c.in_ok-index-in-TlsBaseGet.ensures.given
@@ -137,5 +134,5 @@ pub unreachable-requires : goal.unreachable-requires
 unreachable-requires c =
     let role : IsImportRole c.args.root.now.world.now c.args.import.now =
     import_role c.args.root.now.world.now (user_of c.args.self.now.user.which) c.args.self.now.user.found.now c.requires.sources.user.named c.requires.sources.valid (record { module_name = c.args.module.now; field = c.args.field.now; role = c.args.import.now }) c.requires.present in
-    let linked : IsLinked c.args.import.now = linked_role c.args.root.now.world.now c.args.import.now role c.requires.linked in
+    let linked : IsLinked c.args.import.now = linked_role c.args.root.now.world.now c.args.import.now role c.requires.linked c.requires.typed c.requires.other in
     search rules

@@ -1,8 +1,7 @@
 use Rattle.comp_roles.specs.Borrowed.{core_import}
 use Rattle.comp_roles.specs.CoreImports.{CoreImport}
-use Rattle.world_values.specs.Mentions.{HasReturned}
 use Rattle.shim_plan.specs.Encodings.{unencoded_import}
-use Rattle.shim_plan.specs.Needed.{import_needs}
+use Rattle.shim_plan.specs.Needed.{import_needs, HasOwnTypes}
 use Rattle.shim_plan.proofs.Appending.{all_needed, exits, explains_here, none_lack, none_lacks, one_needed}
 use Rattle.shim_plan.proofs.Returning.{one_holds}
 use Rattle.shim_plan.proofs.modules.UserModule.add_listed.Goals as goal
@@ -16,7 +15,7 @@ returns-in_err-add_import-clause-cause c =
 pub add_import-requires-clause-returned : goal.add_import-requires-clause-returned
 add_import-requires-clause-returned c =
     let r = c.args.self.now.world.now.resolve in
-    one_holds core_import (λ (i : CoreImport). HasReturned r i.role) c.args.imports.now c.loop-import.import-index c.import-item.result c.loop-import-test.true c.import-item.is c.requires.returned
+    one_holds core_import (λ (i : CoreImport). HasOwnTypes r i.role) c.args.imports.now c.loop-import.import-index c.import-item.result c.loop-import-test.true c.import-item.is c.requires.returned
 
 pub loop-import-preserved : goal.loop-import-preserved
 loop-import-preserved c =

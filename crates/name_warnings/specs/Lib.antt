@@ -1,0 +1,4 @@
+pub mod Warnings
+pub mod Forms
+pub mod Repeats
+pub mod Lines
