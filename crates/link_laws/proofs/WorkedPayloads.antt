@@ -36,6 +36,7 @@ use Rattle.comp_worlds.specs.WorldTables.{whole_of}
 use Rattle.comp_worlds.specs.Worlds.{IsWorld}
 use Rattle.comp_worlds.specs.declared.world.ComponentWorld.{ComponentWorld}
 use Rattle.comp_trees.specs.Trees.{Tree, Absent, PrimitiveOf, StreamOf, FutureOf, Resource}
+use Rattle.comp_inventories.specs.Inventories.{inventory}
 use Rattle.comp_links.specs.Naming.{own_names}
 use Rattle.comp_links.specs.Targets.{Main, UnitStream, BuiltIn}
 use Rattle.comp_terms.specs.Terms as terms
@@ -186,6 +187,7 @@ straight_ends = refl
 -- ---- it keeps the rules, and so links
 
 stream_given : IsEntryFor world Main (take 6 straight) (record { name = of_stream; kind = kinds.Func; index = 0 }) (of_stream, drop_stream)
+unfolding inventory
 stream_given = record {
   named = refl;
   serves = inl (record {
@@ -197,6 +199,7 @@ stream_given = record {
 }
 
 future_given : IsEntryFor world Main (take 6 straight) (record { name = of_future; kind = kinds.Func; index = 1 }) (of_future, drop_future)
+unfolding inventory
 future_given = record {
   named = refl;
   serves = inl (record {
@@ -211,7 +214,7 @@ both_given : IsArgumentFor world Main (take 6 straight) (record { name = m_name;
 both_given = record { named = refl; serves = record { entries = entries; made = record { made = refl }; each = (stream_given, (future_given, tt)) } }
 
 keeps_the_rules : IsBuilt own_names world straight
-unfolding values_from
+unfolding inventory values_from
 keeps_the_rules = record {
   generated = record { shims = None; fixup = None };
   are_generated = record { shims = refl; fixup = refl; room = omega arith; alike = no_bases world refl };
@@ -289,7 +292,7 @@ no_stream origins c =
 no_unit : (origins : TypeId → Resource) → DropsStream (machine with_bytes) origins → ⊥
 no_unit origins c =
     let m : Machine = machine with_bytes in
-    true≢false (sym (ap carries_nothing (own_item world m 0 (ItemIsBuiltIn world m origins (intrinsics.StreamDropReadable 0) UnitStream []) c 0 of_end bytes_dropped refl refl).1.0))
+    true≢false (sym (ap carries_nothing (own_item world m 0 (ItemIsBuiltIn world m origins (intrinsics.StreamDropReadable 0) UnitStream []) c 0 of_end bytes_dropped refl refl).1))
 
 abbrev first_import : ImportType
 first_import = record { module_name = m_name; field = of_stream; ty = externs.Func of_end }
