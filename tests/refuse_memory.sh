@@ -78,7 +78,7 @@ refuse_each() {
 }
 
 # of_case FILE NAME: the module of a case of tests_of_components, with its record, in case.wasm, and each adapter ADAPTER in case_ADAPTER.wasm;
-# the component is what is wanted
+# the component is what is wanted, where `new` is given --no-names unless the case begins with [debug-names]
 of_case() {
     line=$(grep "^$2: " "$top/crates/tests_of_components/data/$1.txt" | head -n 1)
     want=$folder/case_want
@@ -88,7 +88,7 @@ of_case() {
 import json, sys
 sys.path.insert(0, sys.argv[1])
 from modules import with_record
-main, *adapters = sys.argv[2].split(" + ")
+main, *adapters = sys.argv[2].removeprefix("[debug-names] ").split(" + ")
 named = [one.partition(": ") for one in adapters]
 for name, given in [("", main), *(("_" + name, given) for name, _, given in named)]:
     core, _, record = given.partition(" ")
@@ -129,6 +129,14 @@ refuse_each 'error: E1 Memory' new "$made" "$folder/case.wasm" --no-names
 # Two modules with one cell of the thread-local base.
 of_case tls_cell 'of main and an adapter'
 refuse_each 'error: E1 Memory' new "$made" "$folder/case.wasm" --no-names --adapt a="$folder/case_a.wasm"
+# A stream that is read synchronously and asynchronously, by two shims, of numbers and of texts, which need a realloc.
+of_case payload_accesses 'imported, stream-read, both ways'
+refuse_each 'error: E1 Memory' new "$made" "$folder/case.wasm"
+of_case payload_accesses 'imported, stream-read, of a text, both ways'
+refuse_each 'error: E1 Memory' new "$made" "$folder/case.wasm"
+# Waits of main, by a shim, and of an adapter, which is given the function itself.
+of_case memory_functions 'main and an adapter, waits'
+refuse_each 'error: E1 Memory' new "$made" "$folder/case.wasm" --adapt a="$folder/case_a.wasm"
 want=$top/examples/downloads/component.wasm
 refuse_each 'error: E1 Memory' new "$made" "$top/examples/downloads/main.wasm"
 # (`E1` where the program's own words could not be read: which were they?)

@@ -59,5 +59,6 @@ mod OtherLists
 mod OtherRuns
 mod WorkedInitialize
 mod WorkedBuiltIns
+mod WorkedPayloads
 mod WorkedCallbacks
 mod WorkedCells
