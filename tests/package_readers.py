@@ -34,11 +34,16 @@ from wasi_adapters import program as component_linker  # noqa: E402
 
 SKIPPED = 77
 # What Rust's reader says where it can't read a package, and the codes of faults by which the program refuses one.
-THERE, HERE_REFUSED = "decoding custom section", re.compile(r"error: E3 Lower: (P4|P8) ")
-NUMBERS = re.compile(r"^\d+: |0x[0-9a-f]+|\d+|`[^`]*`|\"[^\"]*\"")
+THERE, HERE_REFUSED = re.compile(r"decoding custom section \S+\s*(?:1: )?(.*)", re.DOTALL), re.compile(r"error: E3 Lower: (P4|P5|P8) ")
+NUMBERS = re.compile(r" *\(at offset [^)]*\)|0x[0-9a-f]+|\d+|`[^`]*`|\"[^\"]*\"")
 # Reasons of Rust's reader for which the program refuses nothing (docs/DIFFERENCES.md): what a validator of components demands of types and
 # names, and what is passed over without being read.
-LISTED = []
+LISTED = [
+    "is not in kebab case",
+    "is not a valid extern name",
+    "is not valid function does not match expected resource name",
+    "is not a defined type",
+]
 
 
 def packages_in(module):
@@ -73,9 +78,8 @@ def changed(packages, seed, number_of):
 
 
 def reason_of(text):
-    """The last line of a message, without its numbers and names."""
-    lines = text.strip().splitlines()
-    return NUMBERS.sub("_", lines[-1].strip()) if lines else ""
+    """A message in one line, without its numbers and names."""
+    return NUMBERS.sub("_", " ".join(text.split()))
 
 
 def refused_here(program, folder):
@@ -92,8 +96,10 @@ def refused_here(program, folder):
 
 
 def refused_there(folder, core):
+    """What Rust's reader says of the package, if it can't read it."""
     ran = subprocess.run(crate_command(folder, core, None, None), capture_output=True, text=True, errors="replace", check=False)
-    return reason_of(ran.stderr) if ran.returncode and THERE in ran.stderr else ""
+    found = THERE.search(ran.stderr) if ran.returncode else None
+    return reason_of(found[1]) if found else ""
 
 
 def run(job):
