@@ -41,7 +41,7 @@ NUMBERS = re.compile(r" *\(at offset [^)]*\)|0x[0-9a-f]+|\d+|`[^`]*`|\"[^\"]*\""
 LISTED = [
     "is not in kebab case",
     "is not a valid extern name",
-    "is not valid function does not match expected resource name",
+    "is not valid function",
     "is not a defined type",
 ]
 
