@@ -43,7 +43,7 @@ LISTED = [
     "is not a valid extern name",
     "is not valid function",
     "is not a defined type",
-    "function result cannot contain",
+    "function result cannot contain a",
 ]
 
 
