@@ -1,9 +1,8 @@
 -- What one step gave holds after the next, whatever the result of that one is.
 use Rattle.std.proofs.Common.{◌≡◌, ℕ, List, subst, ◌∙◌, sym, Option, Some, None}
-use Rattle.std.specs.Prelude.{IfOk, Result, Ok, Err}
+use Rattle.std.specs.Prelude.{Result, Ok, Err}
 use Rattle.std.specs.Option.{IfSome}
 use Rattle.byte_encoding.specs.declared.fault.BuildFault.{BuildFault}
-use Rattle.comp_trees.specs.Trees.{Tree}
 use Rattle.comp_trees.specs.DefinedTrees.{TypeTree}
 use Rattle.comp_trees.specs.DefinedScopes.{Denotes}
 use Rattle.wit_data.specs.declared.ids.InterfaceId.{InterfaceId}
@@ -11,15 +10,8 @@ use Rattle.wit_data.specs.declared.types.TypeDef.{TypeDef}
 use Rattle.wit_data.specs.declared.types.TypeOwner.{TypeOwner}
 use Rattle.wit_types.specs.Allowing.{foreign}
 use Rattle.wit_types.specs.Denoting.{Longer, MayMake}
-use Rattle.wit_types.specs.Order.{AddsParts}
 use Rattle.wit_types.specs.Settings.{Setting, owner_at}
-use Rattle.wit_types.proofs.Adding.{nothing_added}
 use Rattle.wit_types.proofs.Growing.{longer_one, longer_same}
-
--- a scope that stays the same has no part more
-pub result_nothing : {X : Type 0} (old new : List TypeTree) (r : Result X BuildFault) (t : Tree) → new ≡ old → IfOk r (λ x. AddsParts old new t)
-result_nothing old new (Ok x) t same = nothing_added old new t same
-result_nothing old new (Err e) t same = tt
 
 -- the interface of a type, asked for of the scope's and of its owner
 pub foreign_is : (s : Setting) (types : List TypeDef) (n : ℕ) (here : Option InterfaceId) (owner : TypeOwner) (found other : Option InterfaceId) → here ≡ s.interface → owner ≡ owner_at types n → found ≡ foreign here owner → found ≡ other → foreign s.interface (owner_at types n) ≡ other

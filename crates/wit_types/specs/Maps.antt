@@ -1,8 +1,9 @@
 -- What the tables of a scope say of the types that were met (component model, explainer: type definitions).
-use Rattle.std.specs.Prelude.{ℕ, ◌≡◌, true, List, [], map, Option, Some, None, option_map, is_some, IsTrue}
+use Rattle.std.specs.Prelude.{ℕ, ◌≡◌, ◌⊎◌, true, List, [], map, Option, Some, None, option_map, is_some, IsTrue}
 use Rattle.std.specs.Map.{lookup}
 use Rattle.std.specs.List.{AllByRecursion}
 use Rattle.wit_data.specs.declared.ids.TypeId.{TypeId}
+use Rattle.wit_data.specs.declared.types.TypeDef.{TypeDef}
 use Rattle.wit_data.specs.contracts.ids.TypeIdPartialEq.TheImpl as same_id
 use Rattle.wit_data.specs.declared.types.Type.{«Type» as Ty}
 use Rattle.wit_data.specs.declared.types.Type.TheVariants.{Id}
@@ -46,10 +47,14 @@ key_tree s key =
 pub record HasIndex (maps : TypeEncodingMaps) (id : TypeId) : Type 0 where
   pub there : is_some (lookup (same_id.eq-value.it id) maps.id_to_index) ≡ true
 
--- a type of the resolve that is one of the scope is in the tables
-abbrev pub IsRecorded : TypeEncodingMaps → Ty → ComponentValType → Type 0
-IsRecorded maps (Id id) (values.Defined index) = HasIndex maps id
-IsRecorded maps ty v = Unit {0}
+-- the same, unless it has no name: one without, that is equal to another, need not be known by its own number
+abbrev pub IsKnown : List TypeDef → TypeEncodingMaps → TypeId → Type 0
+IsKnown types maps id = (name_at types id.index ≡ None) ⊎ HasIndex maps id
+
+-- a type of the resolve that is one of the scope is in the tables, if it has a name
+abbrev pub IsRecorded : List TypeDef → TypeEncodingMaps → Ty → ComponentValType → Type 0
+IsRecorded types maps (Id id) (values.Defined index) = IsKnown types maps id
+IsRecorded types maps ty v = Unit {0}
 
 -- a type of the own interface or of none has its index under its name, if it has one
 abbrev pub NamedAs : (List ℕ → ℕ → Type 0) → Option InterfaceId → Option (List ℕ) → ℕ → Type 0

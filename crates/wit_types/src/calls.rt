@@ -39,7 +39,7 @@ pub fn encode_valtype<E: ValtypeEncoder>(
         (E.offers encoder.old) (E.maps encoder.old) }
     ensures value { IfOk result (λ v. ValueDenotes (E.scope encoder.new) v
         (wit_tree (E.setting encoder.old).origin resolve.now.types (Some ty.now))) }
-    ensures recorded { IfOk result (λ v. IsRecorded (E.maps encoder.new) ty.now v) }
+    ensures recorded { IfOk result (λ v. IsRecorded resolve.now.types (E.maps encoder.new) ty.now v) }
     ensures named { IfOk result
         (λ v. IsNamedValue (E.setting encoder.old) (E.names encoder.new) ty.now v) }
     ensures adds { IfOk result (λ v. AddsParts (E.scope encoder.old) (E.scope encoder.new)

@@ -39,7 +39,7 @@ pub(crate) fn encode_type<E: ValtypeEncoder>(
     requires allowed { IsTrue (is_allowed (E.setting encoder.old) (Some ty)) }
     ensures value { IfOk result
         (λ v. ValueDenotes (E.scope encoder.new) v (tree_in (E.setting encoder.old) (Some ty))) }
-    ensures recorded { IfOk result (λ v. IsRecorded (E.maps encoder.new) ty v) }
+    ensures recorded { IfOk result (λ v. IsRecorded types.now (E.maps encoder.new) ty v) }
     ensures named { IfOk result
         (λ v. IsNamedValue (E.setting encoder.old) (E.names encoder.new) ty v) }
     ensures adds { IfOk result (λ v. AddsParts (E.scope encoder.old) (E.scope encoder.new)
@@ -73,7 +73,7 @@ fn encode_id<E: ValtypeEncoder>(
     requires allowed { IsTrue (is_allowed (E.setting encoder.old) (Some (Id id))) }
     ensures value { IfOk result (λ v. ValueDenotes (E.scope encoder.new) v
         (tree_in (E.setting encoder.old) (Some (Id id)))) }
-    ensures recorded { IfOk result (λ v. IsRecorded (E.maps encoder.new) (Id id) v) }
+    ensures recorded { IfOk result (λ v. IsRecorded types.now (E.maps encoder.new) (Id id) v) }
     ensures named { IfOk result
         (λ v. IsNamedValue (E.setting encoder.old) (E.names encoder.new) (Id id) v) }
     ensures adds { IfOk result (λ v. AddsParts (E.scope encoder.old) (E.scope encoder.new)
@@ -176,7 +176,7 @@ fn make_type<E: ValtypeEncoder>(
         (kind_at types.now id.index) }
     ensures value { IfOk result (λ v. ValueDenotes (E.scope encoder.new) v
         (tree_in (E.setting encoder.old) (Some (Id id)))) }
-    ensures recorded { IfOk result (λ v. IsRecorded (E.maps encoder.new) (Id id) v) }
+    ensures recorded { IfOk result (λ v. IsRecorded types.now (E.maps encoder.new) (Id id) v) }
     ensures named { IfOk result
         (λ v. IsNamedValue (E.setting encoder.old) (E.names encoder.new) (Id id) v) }
     ensures adds { IfOk result (λ v. AddsParts (E.scope encoder.old) (E.scope encoder.new)

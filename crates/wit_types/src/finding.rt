@@ -10,7 +10,7 @@ ghost use Rattle.wit_types.specs.Settings.{tree_in, owner_at, name_at};
 ghost use Rattle.comp_trees.specs.DefinedScopes.{Denotes};
 ghost use Rattle.wit_types.specs.Denoting.{Longer, IsCause};
 ghost use Rattle.wit_types.specs.Order.{AddsParts};
-ghost use Rattle.wit_types.specs.Maps.{Faithful, HasIndex, IsNamed};
+ghost use Rattle.wit_types.specs.Maps.{Faithful, HasIndex, IsKnown, IsNamed};
 ghost use Rattle.wit_types.specs.Allowing.{foreign, is_resource, is_allowed, may_export_as, IsDefinedHere};
 
 use crate::encoder::ValtypeEncoder;
@@ -40,7 +40,7 @@ pub(crate) fn find_type<E: ValtypeEncoder>(
     ensures denotes { IfOk result (λ found. IfSome found (λ index. Denotes (E.scope encoder.new)
         index (OfValues (tree_in (E.setting encoder.old) (Some (Id id)))))) }
     ensures recorded { IfOk result
-        (λ found. IfSome found (λ index. HasIndex (E.maps encoder.new) id)) }
+        (λ found. IfSome found (λ index. IsKnown types.now (E.maps encoder.new) id)) }
     ensures named { IfOk result (λ found. IfSome found
         (λ index. IsNamed (E.setting encoder.old) (E.names encoder.new) id index)) }
     ensures defined { IfOk result (λ found. found ≡ None
@@ -65,7 +65,7 @@ pub(crate) fn find_type<E: ValtypeEncoder>(
     if is_resource(kind_of(types, id.index)) {
         return Ok(Some(export_resource(alloc, encoder, types, id)?));
     }
-    equal_type(encoder, types, id)
+    Ok(equal_type(encoder, types, id))
 }
 
 /// Imports a type of another interface.
@@ -178,38 +178,30 @@ fn export_resource_as<E: ValtypeEncoder>(
     Ok(index)
 }
 
-/// The index of a type without a name that was met and is equal.
-fn equal_type<E: ValtypeEncoder>(
-    encoder: &mut E,
-    types: &[TypeDef],
-    id: TypeId,
-) -> Result<Option<u32>, BuildFault>
+/// The index of a type without a name that was met and is equal. The type isn't known by its own number for that: where
+/// the equal one is forgotten, so is this.
+fn equal_type<E: ValtypeEncoder>(encoder: &mut E, types: &[TypeDef], id: TypeId) -> Option<u32>
     requires back { RefersBack types.now }
     requires same { (E.setting encoder.old).types ≡ types.now }
     requires faithful { Faithful (E.setting encoder.old) (E.scope encoder.old) (E.names encoder.old)
         (E.offers encoder.old) (E.maps encoder.old) }
     requires present { id.index < length types.now }
-    ensures denotes { IfOk result (λ found. IfSome found (λ index. Denotes (E.scope encoder.new)
-        index (OfValues (tree_in (E.setting encoder.old) (Some (Id id)))))) }
-    ensures recorded { IfOk result
-        (λ found. IfSome found (λ index. HasIndex (E.maps encoder.new) id)) }
-    ensures named { IfOk result (λ found. IfSome found
-        (λ index. IsNamed (E.setting encoder.old) (E.names encoder.new) id index)) }
+    ensures denotes { IfSome result (λ index. Denotes (E.scope encoder.new) index
+        (OfValues (tree_in (E.setting encoder.old) (Some (Id id))))) }
+    ensures recorded { IfSome result (λ index. IsKnown types.now (E.maps encoder.new) id) }
+    ensures named { IfSome result
+        (λ index. IsNamed (E.setting encoder.old) (E.names encoder.new) id index) }
     ensures scope { E.scope encoder.new ≡ E.scope encoder.old }
     ensures setting { E.setting encoder.new ≡ E.setting encoder.old }
     ensures faithful { Faithful (E.setting encoder.new) (E.scope encoder.new) (E.names encoder.new)
         (E.offers encoder.new) (E.maps encoder.new) }
     ensures follows { E.follows encoder.old encoder.new }
-    ensures cause { IfErr result (IsCause E.refuses encoder.new) }
 {
     if has_name(types, id) {
-        return Ok(None);
+        return None;
     }
     match met_kind(encoder, kind_of(types, id.index)) {
-        Some(index) => {
-            record_type(encoder, id, index)?;
-            Ok(Some(index))
-        }
-        None => Ok(None),
+        Some(index) => Some(index),
+        None => None,
     }
 }

@@ -41,7 +41,7 @@ pub(crate) fn export_and_record<E: ValtypeEncoder>(
         (tree_in (E.setting encoder.old) (Some (Id id))) }
     ensures value { IfOk result (λ v. ValueDenotes (E.scope encoder.new) v
         (tree_in (E.setting encoder.old) (Some (Id id)))) }
-    ensures recorded { IfOk result (λ v. IsRecorded (E.maps encoder.new) (Id id) v) }
+    ensures recorded { IfOk result (λ v. IsRecorded types.now (E.maps encoder.new) (Id id) v) }
     ensures named { IfOk result
         (λ v. IsNamedValue (E.setting encoder.old) (E.names encoder.new) (Id id) v) }
     ensures adds { IfOk result (λ v. AddsParts (E.scope encoder.old) (E.scope encoder.new)
@@ -78,7 +78,7 @@ fn record_named<E: ValtypeEncoder>(
         (tree_in (E.setting encoder.old) (Some (Id id))) }
     ensures value { IfOk result (λ v. ValueDenotes (E.scope encoder.new) v
         (tree_in (E.setting encoder.old) (Some (Id id)))) }
-    ensures recorded { IfOk result (λ v. IsRecorded (E.maps encoder.new) (Id id) v) }
+    ensures recorded { IfOk result (λ v. IsRecorded types.now (E.maps encoder.new) (Id id) v) }
     ensures named { IfOk result
         (λ v. IsNamedValue (E.setting encoder.old) (E.names encoder.new) (Id id) v) }
     ensures adds { IfOk result (λ v. AddsParts (E.scope encoder.old) (E.scope encoder.new)
@@ -159,7 +159,7 @@ fn record_unnamed<E: ValtypeEncoder>(
         (tree_in (E.setting encoder.old) (Some (Id id))) }
     ensures value { IfOk result (λ v. ValueDenotes (E.scope encoder.new) v
         (tree_in (E.setting encoder.old) (Some (Id id)))) }
-    ensures recorded { IfOk result (λ v. IsRecorded (E.maps encoder.new) (Id id) v) }
+    ensures recorded { IfOk result (λ v. IsRecorded types.now (E.maps encoder.new) (Id id) v) }
     ensures named { IfOk result
         (λ v. IsNamedValue (E.setting encoder.old) (E.names encoder.new) (Id id) v) }
     ensures scope { E.scope encoder.new ≡ E.scope encoder.old }

@@ -11,7 +11,7 @@ use Rattle.wit_types.proofs.Parting.{parts_more, primitive_value}
 use Rattle.std.specs.Prelude.{Option, IfOk}
 use Rattle.wit_data.specs.declared.types.Type.{«Type» as Ty}
 use Rattle.wit_types.specs.Denoting.{ValueDenotes}
-use Rattle.wit_types.specs.Maps.{IsRecorded, IsNamedValue, IsNamed, HasIndex}
+use Rattle.wit_types.specs.Maps.{IsRecorded, IsNamedValue, IsNamed, IsKnown}
 use Rattle.wit_types.specs.Order.{AddsParts}
 use Rattle.comp_trees.specs.DefinedTrees.{OfValues}
 use Rattle.comp_trees.specs.DefinedScopes.{Denotes}
@@ -125,7 +125,7 @@ encode_type-returns-in-Id-clause-value g t c =
 
 pub encode_type-returns-in-Id-clause-recorded : goal.encode_type-returns-in-Id-clause-recorded
 encode_type-returns-in-Id-clause-recorded g t c =
-    subst (λ (ty : Ty). IfOk c.encode_id.result (λ v. IsRecorded (g.E.ValtypeEncoder.maps c.encode_id.new.encoder) ty v)) (sym c.in-Id.is) c.encode_id.ensures.recorded
+    subst (λ (ty : Ty). IfOk c.encode_id.result (λ v. IsRecorded c.args.types.now (g.E.ValtypeEncoder.maps c.encode_id.new.encoder) ty v)) (sym c.in-Id.is) c.encode_id.ensures.recorded
 
 pub encode_type-returns-in-Id-clause-named : goal.encode_type-returns-in-Id-clause-named
 encode_type-returns-in-Id-clause-named g t c =
@@ -155,7 +155,7 @@ encode_id-returns-in-Some-clause-named g t c =
 
 pub encode_id-returns-in-Some-clause-recorded : goal.encode_id-returns-in-Some-clause-recorded
 encode_id-returns-in-Some-clause-recorded g t c =
-    some_of _ c.in-Some.index (λ i. HasIndex (g.E.ValtypeEncoder.maps c.find_type.new.encoder) c.args.id) c.in-Some.is c.in_ok-index.ensures.recorded
+    some_of _ c.in-Some.index (λ i. IsKnown c.args.types.now (g.E.ValtypeEncoder.maps c.find_type.new.encoder) c.args.id) c.in-Some.is c.in_ok-index.ensures.recorded
 
 pub encode_id-find_type-requires-clause-back : goal.encode_id-find_type-requires-clause-back
 encode_id-find_type-requires-clause-back g t c = c.requires.back

@@ -1,5 +1,4 @@
-use Rattle.std.proofs.Common.{ap, refl, subst, sym, ◌∙◌, Some}
-use Rattle.std.specs.Prelude.{IfOk}
+use Rattle.std.proofs.Common.{ap, refl, subst, sym, inr, ◌∙◌, Some}
 use Rattle.std.specs.Option.{IfSome}
 use Rattle.comp_trees.specs.DefinedTrees.{OfValues}
 use Rattle.comp_trees.specs.DefinedScopes.{Denotes}
@@ -9,7 +8,7 @@ use Rattle.wit_types.specs.Allowing.{is_allowed, is_resource}
 use Rattle.wit_types.specs.Maps.{IsNamed}
 use Rattle.wit_types.proofs.Adding.{added_as, added_then, nothing_added}
 use Rattle.wit_types.proofs.Growing.{denotes_as, longer_on, longer_same, named_in}
-use Rattle.wit_types.proofs.Stepping.{foreign_is, result_nothing}
+use Rattle.wit_types.proofs.Stepping.{foreign_is}
 use Rattle.wit_types.proofs.finding.find_type.Goals as goal
 
 pub returns-in_err-import_type-clause-follows : goal.returns-in_err-import_type-clause-follows
@@ -100,12 +99,12 @@ returns-then-is_resource-clause-adds g c =
 
 pub returns-clause-denotes : goal.returns-clause-denotes
 returns-clause-denotes g c =
-    subst (λ (s : Setting). IfOk c.equal_type.result (λ found. IfSome found (λ index. Denotes (g.E.ValtypeEncoder.scope c.equal_type.new.encoder) index (OfValues (tree_in s (Some (Id c.args.id)))))))
+    subst (λ (s : Setting). IfSome c.equal_type.result (λ index. Denotes (g.E.ValtypeEncoder.scope c.equal_type.new.encoder) index (OfValues (tree_in s (Some (Id c.args.id))))))
     c.met_type.ensures.setting c.equal_type.ensures.denotes
 
 pub returns-clause-named : goal.returns-clause-named
 returns-clause-named g c =
-    subst (λ (s : Setting). IfOk c.equal_type.result (λ found. IfSome found (λ index. IsNamed s (g.E.ValtypeEncoder.names c.equal_type.new.encoder) c.args.id index)))
+    subst (λ (s : Setting). IfSome c.equal_type.result (λ index. IsNamed s (g.E.ValtypeEncoder.names c.equal_type.new.encoder) c.args.id index))
     c.met_type.ensures.setting c.equal_type.ensures.named
 
 pub returns-clause-grows : goal.returns-clause-grows
@@ -115,7 +114,7 @@ pub returns-clause-setting : goal.returns-clause-setting
 returns-clause-setting g c = c.equal_type.ensures.setting ∙ c.met_type.ensures.setting
 
 pub returns-clause-adds : goal.returns-clause-adds
-returns-clause-adds g c = result_nothing _ _ c.equal_type.result _ (c.equal_type.ensures.scope ∙ c.met_type.ensures.scope)
+returns-clause-adds g c = nothing_added _ _ _ (c.equal_type.ensures.scope ∙ c.met_type.ensures.scope)
 
 pub import_type-requires-clause-back : goal.import_type-requires-clause-back
 import_type-requires-clause-back g c = c.requires.back
@@ -145,7 +144,7 @@ pub equal_type-requires-clause-faithful : goal.equal_type-requires-clause-faithf
 equal_type-requires-clause-faithful g c = c.met_type.ensures.faithful
 
 pub returns-in-Some-foreign-clause-recorded : goal.returns-in-Some-foreign-clause-recorded
-returns-in-Some-foreign-clause-recorded g c = c.in_ok-import_type.ensures.recorded
+returns-in-Some-foreign-clause-recorded g c = inr c.in_ok-import_type.ensures.recorded
 
 pub returns-in-Some-foreign-clause-faithful : goal.returns-in-Some-foreign-clause-faithful
 returns-in-Some-foreign-clause-faithful g c = c.import_type.ensures.faithful
@@ -154,7 +153,7 @@ pub returns-in_err-import_type-clause-faithful : goal.returns-in_err-import_type
 returns-in_err-import_type-clause-faithful g c = c.import_type.ensures.faithful
 
 pub returns-then-is_resource-clause-recorded : goal.returns-then-is_resource-clause-recorded
-returns-then-is_resource-clause-recorded g c = c.in_ok-export_resource.ensures.recorded
+returns-then-is_resource-clause-recorded g c = inr c.in_ok-export_resource.ensures.recorded
 
 pub returns-then-is_resource-clause-faithful : goal.returns-then-is_resource-clause-faithful
 returns-then-is_resource-clause-faithful g c = c.export_resource.ensures.faithful
@@ -167,6 +166,3 @@ returns-clause-recorded g c = c.equal_type.ensures.recorded
 
 pub returns-clause-faithful : goal.returns-clause-faithful
 returns-clause-faithful g c = c.equal_type.ensures.faithful
-
-pub returns-clause-cause : goal.returns-clause-cause
-returns-clause-cause g c = c.equal_type.ensures.cause

@@ -1,8 +1,8 @@
-use Rattle.std.proofs.Common.{ap, subst, Some, None}
+use Rattle.std.proofs.Common.{ap, subst, inl, inr, Some, None}
 use Rattle.comp_bytes.specs.declared.types.ComponentValType.{ComponentValType}
 use Rattle.comp_inventories.specs.Inventories.{scope_of}
 use Rattle.wit_data.specs.declared.types.Type.TheVariants.{Id}
-use Rattle.wit_types.specs.Maps.{IsNamedValue}
+use Rattle.wit_types.specs.Maps.{IsNamedValue, IsRecorded}
 use Rattle.root_imports.specs.Interfaces.{AreInterfacesKnown}
 use Rattle.root_imports.specs.RootScopes.{any_index, root_setting}
 use Rattle.root_imports.proofs.Allowing.{interface_allows}
@@ -39,3 +39,12 @@ unreachable-requires c =
     let s = root_setting w (Some c.args.interface) c.args.self.now.met in
     has_name w c.args.interface c.args.self.now.met c.args.id c.requires.usable
     (subst (λ (v : ComponentValType). IsNamedValue s any_index (Id c.args.id) v) c.in-Primitive.is c.in_ok-value.ensures.named)
+
+pub returns-clause-recorded : goal.returns-clause-recorded
+returns-clause-recorded c =
+    let w = c.args.self.now.world.now in
+    let recorded = subst (λ (v : ComponentValType). IsRecorded w.resolve.types c.encode_valtype.new.encoder.maps (Id c.args.id) v) c.in-Defined.is c.in_ok-value.ensures.recorded in
+    elim recorded [
+      | inl unnamed ↦ absurd (has_name w c.args.interface c.args.self.now.met c.args.id c.requires.usable (record { no_name = unnamed }))
+      | inr known ↦ known
+    ]
