@@ -476,9 +476,9 @@ memory_unshared w ds h = by (shared_memory w) h
 
 -- what is there for the imports of one module is there for those of another
 pub own_sources : {w : ComponentWorld} {s : ImportSources} {met : MetTypes} {old new : Built} {maps : TypeEncodingMaps} {instances : List (InterfaceId × ℕ)} → Extends old new → AreSources w s met old.defs maps instances →
-    (own : ImportSources) → IsUser w own.user → own.functions.now ≡ s.functions.now → own.shims.now ≡ s.shims.now → own.shim_instance ≡ s.shim_instance → IsMemoryBefore w new.defs (user_of own.user.which) own.memory → IsMainInstance new.defs (user_of own.user.which) own.main →
+    (own : ImportSources) → IsUser w own.user → own.functions.now ≡ s.functions.now → own.shims.now ≡ s.shims.now → own.shim_instance ≡ s.shim_instance → own.shares_memory ≡ s.shares_memory → IsMemoryBefore w new.defs (user_of own.user.which) own.memory → IsMainInstance new.defs (user_of own.user.which) own.main →
     AllByRecursion (IsMade w new.defs own.main own.adapters.now) (modules_of_imports own.user.found.now) → AreSources w own met new.defs maps instances
-own_sources {w} {s} {met} {old} {new} {maps} {instances} g h own user functions shims instance memory main made =
+own_sources {w} {s} {met} {old} {new} {maps} {instances} g h own user functions shims instance shares memory main made =
     let k : AreSources w s met new.defs maps instances = sources-kept g h in
     record {
       valid = k.valid;
@@ -488,6 +488,7 @@ own_sources {w} {s} {met} {old} {new} {maps} {instances} g h own user functions 
       shims = shims ∙ k.shims;
       shim_instance = subst (IsShimInstance w new.defs) (sym instance) k.shim_instance;
       memory = memory;
+      shares = shares ∙ k.shares;
       main = main;
       made = made;
       tables = k.tables;

@@ -57,6 +57,7 @@ pub(crate) fn sources_of<'a>(
     ensures shims { result.shims.now ≡ shims.now }
     ensures instance { result.shim_instance ≡ made.instance }
     ensures memory { result.memory ≡ made.memory }
+    ensures shares { result.shares_memory ≡ made.shares_memory }
     ensures main { result.main ≡ main }
     ensures adapters { result.adapters.now ≡ adapters.now }
 {
@@ -66,6 +67,7 @@ pub(crate) fn sources_of<'a>(
         shims,
         shim_instance: made.instance,
         memory: made.memory,
+        shares_memory: made.shares_memory,
         main,
         adapters,
     }
@@ -196,6 +198,7 @@ fn instantiate_adapters(
     let made = MadeShims {
         instance: sources.shim_instance,
         memory: main.memory,
+        shares_memory: sources.shares_memory,
     };
     for (name, adapter) in world.adapters.iter() {
         check_made(alloc, &table, name, adapter)?;

@@ -95,14 +95,14 @@ made-kept w main adapters g [] h = tt
 made-kept w main adapters g (which ∷ named) h = (record { instance = h.0.instance; there = h.0.there; number = h.0.number; of = h.0.of; is = instance-kept g h.0.is }, made-kept w main adapters g named h.1)
 
 pub sources-kept : {w : ComponentWorld} {s : ImportSources} {met : MetTypes} {old new : Built} {maps : TypeEncodingMaps} {instances : List (InterfaceId × ℕ)} → Extends old new → AreSources w s met old.defs maps instances → AreSources w s met new.defs maps instances
-sources-kept {w} {s} {met} {old} {new} {maps} {instances} g h = record { valid = h.valid; user = h.user; imports = FindsImports-kept (longer g) h.imports; used = h.used; shims = h.shims; shim_instance = shim_instance-kept w s.shim_instance (longer g) h.shim_instance; memory = memory_before-kept w (user_of s.user.which) s.memory (longer g) h.memory; main = main_instance-kept (user_of s.user.which) s.main (longer g) h.main; made = made-kept w s.main s.adapters.now (longer g) (modules_of_imports s.user.found.now) h.made; tables = tables_kept w met instances old new maps g h.tables; passed = h.passed; exports = h.exports; ordered = h.ordered }
+sources-kept {w} {s} {met} {old} {new} {maps} {instances} g h = record { valid = h.valid; user = h.user; imports = FindsImports-kept (longer g) h.imports; used = h.used; shims = h.shims; shim_instance = shim_instance-kept w s.shim_instance (longer g) h.shim_instance; memory = memory_before-kept w (user_of s.user.which) s.memory (longer g) h.memory; shares = h.shares; main = main_instance-kept (user_of s.user.which) s.main (longer g) h.main; made = made-kept w s.main s.adapters.now (longer g) (modules_of_imports s.user.found.now) h.made; tables = tables_kept w met instances old new maps g h.tables; passed = h.passed; exports = h.exports; ordered = h.ordered }
 
 -- so they do over a step that also adds to the tables
 pub sources-moved : {s : ImportSources} (old new : Root) → RootKept old.world.now old new → AreSources old.world.now s old.met old.items.defs old.maps old.instances → AreSources new.world.now s new.met new.items.defs new.maps new.instances
 sources-moved {s} old new g h =
     subst (λ l. AreSources l.now s new.met new.items.defs new.maps new.instances) (sym g.world)
     (subst (λ l. AreSources old.world.now s l new.items.defs new.maps new.instances) (sym g.met)
-    (record { valid = h.valid; user = h.user; imports = FindsImports-kept (longer g.extends) h.imports; used = h.used; shims = h.shims; shim_instance = shim_instance-kept old.world.now s.shim_instance (longer g.extends) h.shim_instance; memory = memory_before-kept old.world.now (user_of s.user.which) s.memory (longer g.extends) h.memory; main = main_instance-kept (user_of s.user.which) s.main (longer g.extends) h.main; made = made-kept old.world.now s.main s.adapters.now (longer g.extends) (modules_of_imports s.user.found.now) h.made; tables = g.tables; passed = h.passed; exports = h.exports; ordered = h.ordered }))
+    (record { valid = h.valid; user = h.user; imports = FindsImports-kept (longer g.extends) h.imports; used = h.used; shims = h.shims; shim_instance = shim_instance-kept old.world.now s.shim_instance (longer g.extends) h.shim_instance; memory = memory_before-kept old.world.now (user_of s.user.which) s.memory (longer g.extends) h.memory; shares = h.shares; main = main_instance-kept (user_of s.user.which) s.main (longer g.extends) h.main; made = made-kept old.world.now s.main s.adapters.now (longer g.extends) (modules_of_imports s.user.found.now) h.made; tables = g.tables; passed = h.passed; exports = h.exports; ordered = h.ordered }))
 
 -- a step that adds nothing, and one that adds items alone, keep the root
 pub kept_as_is : {s : ImportSources} (old : Root) → AreSources old.world.now s old.met old.items.defs old.maps old.instances → RootKept old.world.now old old

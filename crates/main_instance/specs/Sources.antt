@@ -1,6 +1,6 @@
 -- What is taken as given where the imports of a user module are given what they need. (The rules
 -- are this project's own.)
-use Rattle.std.specs.Prelude.{◌≡◌, ℕ, List, Option, Some, None, true, false, map, Contains}
+use Rattle.std.specs.Prelude.{◌≡◌, ℕ, List, Option, Some, None, true, false, map, is_some, Contains}
 use Rattle.std.specs.List.{AllByRecursion}
 use Rattle.standard_kinds.specs.declared.kinds.ExportKind.TheVariants as kinds
 use Rattle.comp_bytes.specs.declared.def.Def.{Def}
@@ -111,6 +111,7 @@ pub record AreSources (w : ComponentWorld) (s : ImportSources) (met : MetTypes) 
   pub shims : s.shims.now ≡ shims_of w
   pub shim_instance : IsShimInstance w ds s.shim_instance
   pub memory : IsMemoryBefore w ds (user_of s.user.which) s.memory
+  pub shares : s.shares_memory ≡ is_some (shared_memory w)
   pub main : IsMainInstance ds (user_of s.user.which) s.main
   pub made : AllByRecursion (IsMade w ds s.main s.adapters.now) (modules_of_imports s.user.found.now)
   pub tables : AreTablesRight w met instances ds maps

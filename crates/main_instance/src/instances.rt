@@ -61,6 +61,8 @@ pub struct ImportSources<'a> {
     /// The alias of main's memory, where it is there by now: for main's own imports the one that
     /// main imports, for those of other modules the one that it imports or exports.
     pub memory: Option<u32>,
+    /// Whether main imports its memory.
+    pub shares_memory: bool,
     /// Main's instance, where these are the imports of another module.
     pub main: Option<u32>,
     /// The instances of the adapters that were made before, by their names.

@@ -139,7 +139,7 @@ impl ImportSources<'_> {
         } ∷ []) []) }
     {
         let needed = access.options(root.world);
-        if access_needs_shim(root.world, needed) {
+        if access_needs_shim(self.shares_memory, needed) {
             self.shim_of_access(root, place, import, access, needed)
         } else {
             self.make_access(root, place, import, access, needed)

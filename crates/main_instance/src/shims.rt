@@ -1,7 +1,7 @@
 //! The module of shims, and its instance.
 #![tactic(auto, using(crate::proofs::Growth::growing))]
 
-ghost use Rattle.std.specs.Prelude.{true, ◌≡◌, ◌⊎◌, ◌<◌, ◌^◌, [], length, None, IfOk, IfErr, OnOk, IsSome};
+ghost use Rattle.std.specs.Prelude.{true, ◌≡◌, ◌⊎◌, ◌<◌, ◌^◌, [], length, None, IfOk, IfErr, OnOk, IsSome, is_some};
 ghost use Rattle.comp_terms.specs.Rules.{Grows};
 ghost use Rattle.comp_terms.specs.Planned.{cell_export};
 ghost use Rattle.comp_terms.specs.Terms.{IsInstanceOf, IsExported};
@@ -143,6 +143,8 @@ pub struct MadeShims {
     pub instance: Option<u32>,
     /// The alias of the memory that main imports, if it imports one.
     pub memory: Option<u32>,
+    /// Whether it does.
+    pub shares_memory: bool,
 }
 
 /// Adds the module of shims and its instance, where there are shims, main imports its memory, or
@@ -166,9 +168,12 @@ pub fn encode_shim_instantiation(
         root.old.items.defs root.new.items.defs made.instance) }
     ensures memory { IfOk result
         (λ made. IsMemoryIf root.new.items.defs (shared_export root.old.world.now) made.memory) }
+    ensures shares { IfOk result
+        (λ made. made.shares_memory ≡ is_some (shared_memory root.old.world.now)) }
     ensures cause { IfErr result IsRefusal }
 {
     let memory = root.world.main.imports.imported_memory();
+    let shares_memory = memory.is_some();
     match module_of_shims(root.items.allocator(), memory, cell, shims, debug_names)? {
         Some(module) => {
             let instance = instantiate_shims(root, &module, debug_names)?;
@@ -176,11 +181,13 @@ pub fn encode_shim_instantiation(
             Ok(MadeShims {
                 instance: Some(instance),
                 memory,
+                shares_memory,
             })
         }
         None => Ok(MadeShims {
             instance: None,
             memory: None,
+            shares_memory,
         }),
     }
 }

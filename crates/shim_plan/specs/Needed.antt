@@ -320,8 +320,11 @@ access_shim w which i a = shim_of_access which i a (access_options w a)
 
 -- elements are put where the module's realloc says behind the module alone; without a realloc there is a
 -- shim unless main imports its memory
+abbrev pub passes_where : (shares_memory : Bool) → RequiredOptions → Bool
+passes_where shares_memory options = needs options.0 realloc_bit || not shares_memory
+
 abbrev pub passes_through : ComponentWorld → RequiredOptions → Bool
-passes_through w options = needs options.0 realloc_bit || not (is_some (shared_memory w))
+passes_through w options = passes_where (is_some (shared_memory w)) options
 
 abbrev pub accesses_through : ComponentWorld → Accessed → Bool
 accesses_through w a = passes_through w (access_options w a)

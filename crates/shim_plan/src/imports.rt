@@ -1,8 +1,9 @@
 //! The shims that the imports of a module need.
 
-ghost use Rattle.std.specs.Prelude.{◌≡◌, [], ◌∷◌, ◌++◌, map, Some, None, IfOk, IfErr, OnOk};
+ghost use Rattle.std.specs.Prelude.{◌≡◌, [], ◌∷◌, ◌++◌, map, Some, None, IfOk, IfErr, OnOk, is_some};
 ghost use Rattle.std.specs.List.{AllByRecursion, flat_map};
 ghost use Rattle.comp_roles.specs.Borrowed.{core_import};
+ghost use Rattle.comp_worlds.specs.Offered.{shared_memory};
 ghost use Rattle.comp_worlds.specs.Uses.{imports_of};
 ghost use Rattle.wit_data.specs.Sound.{IsSound, HasFunction};
 ghost use Rattle.shim_plan.specs.Encodings.{Explains, place_of, unencoded_call, unencoded_if, unencoded_role, unencoded_import};
@@ -17,7 +18,7 @@ use crate::modules::UserModule;
 use crate::needs::{NeededShim, append, copy_sig};
 use crate::payloads::accessed_of;
 use crate::reallocs::ReallocSite;
-use crate::returns::{ReturnedFunction, encoding_of_return, returned_of, returns_through};
+use crate::returns::{ReturnedFunction, encoding_of_return, returned_of};
 use comp_lists::Text;
 use comp_options::RequiredOptions;
 use comp_roles::{MainOrAdapter, NamedImport};
@@ -189,6 +190,7 @@ impl UserModule<'_> {
         import: &NamedImport<'_>,
         returned: &ReturnedFunction<'_>,
     ) -> Result<(), ShimFault>
+        requires shares { self.now.shares_memory ≡ is_some (shared_memory self.now.world.now) }
         requires sound { IsSound self.now.world.now.resolve }
         requires present { HasFunction self.now.world.now.resolve returned.now.function.now }
         ensures ok { OnOk result (needs.new.items
@@ -201,7 +203,7 @@ impl UserModule<'_> {
         ensures cause { IfErr result (Explains (unencoded_role self.now.world.now self.now.found.now
             (core_import import.now) (Some (specs.returned_function returned.now)))) }
     {
-        if !returns_through(self.world, returned) {
+        if !self.returns_through(returned) {
             return Ok(());
         }
         match encoding_of_return(alloc, self.found, returned)? {
@@ -247,6 +249,7 @@ impl UserModule<'_> {
         alloc: Global,
         import: &NamedImport<'_>,
     ) -> Result<(), ShimFault>
+        requires shares { self.now.shares_memory ≡ is_some (shared_memory self.now.world.now) }
         ensures ok { OnOk result (needs.new.items
             ≡ needs.old.items
             ++ specs.passing_needs self.now.world.now self.now.which.now self.now.found.now
@@ -275,6 +278,7 @@ impl UserModule<'_> {
         alloc: Global,
         import: &NamedImport<'_>,
     ) -> Result<(), ShimFault>
+        requires shares { self.now.shares_memory ≡ is_some (shared_memory self.now.world.now) }
         requires sound { IsSound self.now.world.now.resolve }
         requires there { specs.HasOwnTypes self.now.world.now.resolve import.now.role.now }
         ensures ok { OnOk result (needs.new.items
@@ -305,6 +309,7 @@ impl UserModule<'_> {
         alloc: Global,
         import: &NamedImport<'_>,
     ) -> Result<(), ShimFault>
+        requires shares { self.now.shares_memory ≡ is_some (shared_memory self.now.world.now) }
         requires sound { IsSound self.now.world.now.resolve }
         requires returned { specs.HasOwnTypes self.now.world.now.resolve import.now.role.now }
         ensures ok { OnOk result (needs.new.items
@@ -330,6 +335,7 @@ impl UserModule<'_> {
         alloc: Global,
         import: &NamedImport<'_>,
     ) -> Result<(), ShimFault>
+        requires shares { self.now.shares_memory ≡ is_some (shared_memory self.now.world.now) }
         requires sound { IsSound self.now.world.now.resolve }
         requires returned { specs.HasOwnTypes self.now.world.now.resolve import.now.role.now }
         ensures ok { OnOk result (needs.new.items
@@ -357,6 +363,7 @@ impl UserModule<'_> {
         alloc: Global,
         imports: &[NamedImport<'_>],
     ) -> Result<(), ShimFault>
+        requires shares { self.now.shares_memory ≡ is_some (shared_memory self.now.world.now) }
         requires sound { IsSound self.now.world.now.resolve }
         requires returned { AllByRecursion (λ i. specs.HasOwnTypes self.now.world.now.resolve i.role)
             (map core_import imports.now) }
@@ -383,6 +390,7 @@ impl UserModule<'_> {
         needs: &mut Vec<NeededShim>,
         alloc: Global,
     ) -> Result<(), ShimFault>
+        requires shares { self.now.shares_memory ≡ is_some (shared_memory self.now.world.now) }
         requires sound { IsSound self.now.world.now.resolve }
         requires returned { AllByRecursion (λ i. specs.HasOwnTypes self.now.world.now.resolve i.role)
             (imports_of self.now.found.now) }

@@ -3,7 +3,8 @@
 //!
 //! Canonical ABI: `canon waitable-set.{wait,poll}`, `canon error-context.{new,debug-message}`.
 
-ghost use Rattle.std.specs.Prelude.{◌≡◌, [], ◌∷◌, ◌++◌, None, IfOk, IfSome, OnOk};
+ghost use Rattle.std.specs.Prelude.{◌≡◌, [], ◌∷◌, ◌++◌, None, IfOk, IfSome, OnOk, is_some};
+ghost use Rattle.comp_worlds.specs.Offered.{shared_memory};
 ghost use Rattle.shim_plan.specs.Needed as specs;
 
 use crate::copies::copy_debug_message;
@@ -14,7 +15,6 @@ use crate::reallocs::ReallocSite;
 use comp_lists::{Seq, Text};
 use comp_options::RequiredOptions;
 use comp_roles::{Import, MainOrAdapter};
-use comp_worlds::ComponentWorld;
 use standard_kinds::StringEncoding;
 use std::alloc::{AllocError, Global};
 use wit_data::{WasmSignature, WasmType};
@@ -128,17 +128,6 @@ impl MemoryFunction {
     }
 }
 
-/// Whether it needs a shim: always, where its options have a realloc, and else where main imports no
-/// memory.
-fn has_own_shim(world: &ComponentWorld, function: MemoryFunction) -> bool
-    ensures { result ≡ specs.has_own_shim world.now function }
-{
-    match function {
-        MemoryFunction::ErrorMessage { encoding: _ } => true,
-        _ => world.main.imports.imported_memory().is_none(),
-    }
-}
-
 /// Adds its own shim, for a module.
 fn add_own(
     needs: &mut Vec<NeededShim>,
@@ -164,6 +153,18 @@ fn add_own(
 }
 
 impl UserModule<'_> {
+    /// Whether it needs a shim: always, where its options have a realloc, and else where main imports no
+    /// memory.
+    fn has_own_shim(&self, function: MemoryFunction) -> bool
+        requires shares { self.now.shares_memory ≡ is_some (shared_memory self.now.world.now) }
+        ensures { result ≡ specs.has_own_shim self.now.world.now function }
+    {
+        match function {
+            MemoryFunction::ErrorMessage { encoding: _ } => true,
+            _ => !self.shares_memory,
+        }
+    }
+
     /// Adds its own shim, and that of its realloc.
     #[tactic(auto, using(crate::proofs::Appending::one_then))]
     fn add_through(
@@ -190,12 +191,13 @@ impl UserModule<'_> {
         alloc: Global,
         function: MemoryFunction,
     ) -> Result<(), AllocError>
+        requires shares { self.now.shares_memory ≡ is_some (shared_memory self.now.world.now) }
         ensures { OnOk result (needs.new.items
             ≡ needs.old.items
             ++ specs.function_needs self.now.world.now self.now.which.now self.now.found.now
             function) }
     {
-        if has_own_shim(self.world, function) {
+        if self.has_own_shim(function) {
             self.add_through(needs, alloc, function)
         } else {
             Ok(())

@@ -18,6 +18,8 @@ pub(crate) struct UserModule<'a> {
     pub which: &'a MainOrAdapter,
     /// What validation found of it.
     pub found: &'a ValidatedModule,
+    /// Whether main imports its memory.
+    pub shares_memory: bool,
 }
 
 /// What validation found of a module, unless its name is unknown.

@@ -2,10 +2,11 @@
 //!
 //! Canonical ABI: `canon stream.{read,write}`, `canon future.{read,write}`.
 
-ghost use Rattle.std.specs.Prelude.{◌≡◌, [], ◌∷◌, ◌++◌, None, IfOk, IfSome, OnOk};
+ghost use Rattle.std.specs.Prelude.{◌≡◌, [], ◌∷◌, ◌++◌, None, IfOk, IfSome, OnOk, is_some};
 ghost use Rattle.std.specs.Option.{option_map};
 ghost use Rattle.comp_options.specs.Known.{HasPayload};
 ghost use Rattle.comp_roles.specs.Borrowed.{core_import};
+ghost use Rattle.comp_worlds.specs.Offered.{shared_memory};
 ghost use Rattle.wit_data.specs.Sound.{IsSound};
 ghost use Rattle.shim_plan.specs.Needed as specs;
 
@@ -122,11 +123,11 @@ fn access_text(
 }
 
 /// Whether a read or a write with these options has a shim: always, where they have a realloc, and else
-/// where main imports no memory.
-pub fn access_needs_shim(world: &ComponentWorld, options: RequiredOptions) -> bool
-    ensures { result ≡ specs.passes_through world.now options }
+/// where main imports no memory, as `shares_memory` says.
+pub fn access_needs_shim(shares_memory: bool, options: RequiredOptions) -> bool
+    ensures { result ≡ specs.passes_where shares_memory options }
 {
-    options.contains(RequiredOptions::REALLOC) || world.main.imports.imported_memory().is_none()
+    options.contains(RequiredOptions::REALLOC) || !shares_memory
 }
 
 /// Adds its own shim, which has these options, for a module.
@@ -189,13 +190,14 @@ impl UserModule<'_> {
     ) -> Result<(), AllocError>
         requires sound { IsSound self.now.world.now.resolve }
         requires present { HasPayload self.now.world.now.resolve access.now.info.now.ty }
+        requires shares { self.now.shares_memory ≡ is_some (shared_memory self.now.world.now) }
         ensures { OnOk result (needs.new.items
             ≡ needs.old.items
             ++ specs.access_needs self.now.world.now self.now.which.now self.now.found.now
             (core_import import.now) (specs.accessed_payload access.now)) }
     {
         let options = access.options(self.world);
-        if access_needs_shim(self.world, options) {
+        if access_needs_shim(self.shares_memory, options) {
             self.add_accessed(needs, alloc, import, access, options)
         } else {
             Ok(())

@@ -33,6 +33,7 @@ pub(crate) fn needed_shims(
         world,
         which,
         found,
+        shares_memory: world.main.imports.imported_memory().is_some(),
     };
     module.add_imports(&mut needs, alloc)?;
     module.add_destructors(&mut needs, alloc)?;

@@ -2,8 +2,9 @@
 //!
 //! Canonical ABI: `canon task.return`.
 
-ghost use Rattle.std.specs.Prelude.{◌≡◌, [], ◌∷◌, ◌++◌, None, IfOk, IfSome, OnOk};
+ghost use Rattle.std.specs.Prelude.{◌≡◌, [], ◌∷◌, ◌++◌, None, IfOk, IfSome, OnOk, is_some};
 ghost use Rattle.std.specs.Option.{option_copied, option_map};
+ghost use Rattle.comp_worlds.specs.Offered.{shared_memory};
 ghost use Rattle.wit_data.specs.Sound.{IsSound, HasFunction};
 ghost use Rattle.shim_plan.specs.Needed as specs;
 
@@ -51,15 +52,6 @@ fn options_of(world: &ComponentWorld, returned: &ReturnedFunction<'_>) -> Requir
     RequiredOptions::for_task_return(&world.resolve, returned.function)
 }
 
-/// Whether a return needs a shim: it needs a memory, and main imports none.
-pub(crate) fn returns_through(world: &ComponentWorld, returned: &ReturnedFunction<'_>) -> bool
-    requires sound { IsSound world.now.resolve }
-    requires present { HasFunction world.now.resolve returned.now.function.now }
-    ensures { result ≡ specs.returns_through world.now (specs.returned_function returned.now) }
-{
-    options_of(world, returned).contains(RequiredOptions::MEMORY)
-        && world.main.imports.imported_memory().is_none()
-}
 
 /// The string encoding with which a module returns from a function.
 pub(crate) fn encoding_of_return(
@@ -86,6 +78,17 @@ fn return_name(alloc: Global, returned: &ReturnedFunction<'_>) -> Result<Text, A
 }
 
 impl UserModule<'_> {
+    /// Whether a return needs a shim: it needs a memory, and main imports none.
+    pub(crate) fn returns_through(&self, returned: &ReturnedFunction<'_>) -> bool
+        requires sound { IsSound self.now.world.now.resolve }
+        requires present { HasFunction self.now.world.now.resolve returned.now.function.now }
+        requires shares { self.now.shares_memory ≡ is_some (shared_memory self.now.world.now) }
+        ensures { result
+            ≡ specs.returns_through self.now.world.now (specs.returned_function returned.now) }
+    {
+        options_of(self.world, returned).contains(RequiredOptions::MEMORY) && !self.shares_memory
+    }
+
     /// Adds the shim of a return, which has this string encoding.
     pub(crate) fn add_return(
         &self,

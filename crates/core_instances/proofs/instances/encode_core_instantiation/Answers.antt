@@ -111,7 +111,7 @@ instantiate_users-requires-clause-sources c =
     let main : IsMainUser w c.main_user.result = subst (λ x. IsMainUser x.now c.main_user.result) k.world c.main_user.ensures in
     let made : AreImportsMade w s.functions.now b.met b.items.defs b.maps b.instances = subst (λ l. AreImportsMade w l b.met b.items.defs b.maps b.instances) (sym f.functions) (made_after c.args.root.now b k c.requires.made) in
     subst (λ x. AreSources x.now s b.met b.items.defs b.maps b.instances) (sym k.world)
-    (sources_after (extends_none b.items) s (same_is_user w c.main_user.result s.user f.user (main_is_user w c.main_user.result main)) made (subst (λ x. AreExportsMet x.now b.met) a_world c.in_ok-define_exported_types.ensures.met) (subst (λ x. AreExportsInOrder x.now) a_world c.in_ok-define_exported_types.ensures.ordered) (f.shims ∙ c.in_ok-shims.ensures.ok) (subst (IsShimInstance w b.items.defs) (sym f.instance) there) (subst (IsMemoryIf b.items.defs (shared_export w)) (sym f.memory) memory) (ap user_of_name (f.user.named ∙ main.named)) (f.user.found ∙ main.found))
+    (sources_after (extends_none b.items) s (same_is_user w c.main_user.result s.user f.user (main_is_user w c.main_user.result main)) made (subst (λ x. AreExportsMet x.now b.met) a_world c.in_ok-define_exported_types.ensures.met) (subst (λ x. AreExportsInOrder x.now) a_world c.in_ok-define_exported_types.ensures.ordered) (f.shims ∙ c.in_ok-shims.ensures.ok) (subst (IsShimInstance w b.items.defs) (sym f.instance) there) (subst (IsMemoryIf b.items.defs (shared_export w)) (sym f.memory) memory) (f.shares ∙ e.shares) (ap user_of_name (f.user.named ∙ main.named)) (f.user.found ∙ main.found))
 
 pub instantiate_users-requires-clause-main : goal.instantiate_users-requires-clause-main
 instantiate_users-requires-clause-main c = main_same c.define_exported_types.new.root.world.now c.main_user.result c.sources_of-sources.result.user c.sources_of-sources.ensures.user c.main_user.ensures

@@ -69,7 +69,7 @@ instantiate_user-requires-clause-sources c =
     let k : RootKept w c.args.root.now root = c.loop-name.invariant.2 in
     let moved : AreSources w c.args.sources.now root.met mid.defs root.maps root.instances = subst (λ l. AreSources l.now c.args.sources.now root.met mid.defs root.maps root.instances) k.world (sources-moved c.args.root.now root k c.requires.sources) in
     subst (λ l. AreSources l.now c.sources_of-own.result root.met mid.defs root.maps root.instances) (sym k.world)
-    (own_sources (extends_none mid) moved c.sources_of-own.result (same_is_user w c.next_user-user.result c.sources_of-own.result.user own.user is) own.functions own.shims own.instance memory (behind_main mid.defs c.sources_of-own.result c.args.main.index own.main main_made)
+    (own_sources (extends_none mid) moved c.sources_of-own.result (same_is_user w c.next_user-user.result c.sources_of-own.result.user own.user is) own.functions own.shims own.instance own.shares memory (behind_main mid.defs c.sources_of-own.result c.args.main.index own.main main_made)
     (subst (λ o. AllByRecursion (IsMade w mid.defs o c.sources_of-own.result.adapters.now) (modules_of_imports c.sources_of-own.result.user.found.now)) (sym own.main)
     (subst (λ t. AllByRecursion (IsMade w mid.defs (Some c.args.main.index) t) (modules_of_imports c.sources_of-own.result.user.found.now)) (sym own.adapters)
     (subst (λ (m : ValidatedModule). AllByRecursion (IsMade w mid.defs (Some c.args.main.index) table) (modules_of_imports m)) (sym (own.user.found ∙ user.found))
