@@ -1,5 +1,6 @@
 -- Kinds of shims: what their hash is made of.
-use Rattle.std.specs.Prelude.{ℕ, List, [], Some}
+use Rattle.std.specs.Prelude.{ℕ, List, [], Option, Some, None}
+use Rattle.wit_data.specs.declared.ids.InterfaceId.{InterfaceId}
 use Rattle.wit_data.specs.declared.worlds.WorldKey.TheVariants as keys
 use Rattle.shim_plan.specs.declared.kinds.ShimKind.{ShimKind}
 use Rattle.shim_plan.specs.declared.kinds.ShimKind.TheVariants as kinds
@@ -32,7 +33,14 @@ abbrev pub kind_interface_name : ShimKind → List ℕ
 kind_interface_name (kinds.IndirectLowering (Some (keys.Name text)) function realloc encoding) = text
 kind_interface_name kind = []
 
+-- the index of an interface, where there is one
+abbrev pub index_if : Option InterfaceId → ℕ
+index_if (Some id) = id.index
+index_if None = 0
+
+-- that of the function, or of the function of a stream or a future
 abbrev pub kind_interface_index : ShimKind → ℕ
 kind_interface_index (kinds.IndirectLowering (Some (keys.Interface id)) function realloc encoding) = id.index
 kind_interface_index (kinds.TaskReturn (Some id) func result which encoding) = id.index
+kind_interface_index (kinds.PayloadFunc which info kind is_async) = index_if info.interface
 kind_interface_index kind = 0

@@ -1,7 +1,7 @@
 //! What a shim stands for.
 
 ghost use Rattle.std.specs.Prelude.{◌≡◌, IfOk};
-ghost use Rattle.shim_plan.specs.Kinds.{kind_number, kind_name, kind_interface_name, kind_interface_index};
+ghost use Rattle.shim_plan.specs.Kinds.{kind_number, kind_name, kind_interface_name, index_if, kind_interface_index};
 
 use comp_lists::{Text, TryClone};
 use comp_roles::{MainOrAdapter, PayloadFuncKind, PayloadInfo};
@@ -115,6 +115,16 @@ impl Drop for ShimKind {
     }
 }
 
+/// The index of an interface, where there is one.
+fn index_if(interface: Option<InterfaceId>) -> usize
+    ensures { result ≡ index_if interface }
+{
+    match interface {
+        Some(id) => id.index,
+        None => 0,
+    }
+}
+
 impl ShimKind {
     /// The number of the variant.
     fn number(&self) -> u8
@@ -165,7 +175,8 @@ impl ShimKind {
         }
     }
 
-    /// The index of the interface that a function belongs to, where it has one.
+    /// The index of the interface that a function belongs to, or the function of a stream or a future,
+    /// where it has one.
     fn interface_index(&self) -> usize
         ensures { result ≡ kind_interface_index self.now }
     {
@@ -178,6 +189,7 @@ impl ShimKind {
                 interface: Some(id),
                 ..
             } => id.index,
+            ShimKind::PayloadFunc { info, .. } => index_if(info.interface),
             _ => 0,
         }
     }
