@@ -31,7 +31,7 @@ use Rattle.comp_links.specs.Targets.{UserModule, Main, Adapter, ExportRef, Targe
 use Rattle.shim_plan.specs.declared.kinds.ShimKind.{ShimKind}
 use Rattle.shim_plan.specs.declared.kinds.ShimKind.TheVariants as kinds
 use Rattle.shim_plan.specs.declared.shims.Shim.{Shim}
-use Rattle.world_shims.specs.WorldShims.{shims_of, initialize_of, type_of_shim, sections_of_shims, sections_of_fixup}
+use Rattle.world_shims.specs.WorldShims.{shims_of, initialize_of, hook_of, type_of_shim, sections_of_shims, sections_of_fixup}
 
 -- ---- the modules
 
@@ -76,7 +76,7 @@ IsShimModule w debug_names (Some bytes) = Encodes bytes (sections_of_shims (shar
 
 abbrev pub IsFixup : ComponentWorld → Bool → Option (List ℕ) → Type 0
 IsFixup w debug_names None = has_fixup w ≡ false
-IsFixup w debug_names (Some bytes) = Encodes bytes (sections_of_fixup (shims_of w) (initialize_of w) debug_names) × (has_fixup w ≡ true)
+IsFixup w debug_names (Some bytes) = Encodes bytes (sections_of_fixup (shims_of w) (initialize_of w) (hook_of w) debug_names) × (has_fixup w ≡ true)
 
 -- They encode the modules that are generated for the world, with debug names or without; and all user modules agree on
 -- the type of what the cell holds.

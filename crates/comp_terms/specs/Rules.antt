@@ -57,7 +57,7 @@ use Rattle.comp_terms.specs.Terms.{InstanceOf as InstanceTerm, imports_in, IsFun
 use Rattle.fixup_modules.specs.declared.instances.ImportedInstance.{ImportedInstance as FixupInstance}
 use Rattle.fixup_modules.specs.declared.instances.ImportedInstance.TheVariants as sources
 use Rattle.shim_modules.specs.Shims.{getter_name, setter_name}
-use Rattle.world_shims.specs.WorldShims.{shims_of, initialize_of, fixup_instances}
+use Rattle.world_shims.specs.WorldShims.{shims_of, initialize_of, hook_of, fixup_instances}
 use Rattle.comp_terms.specs.UserBytes.{user_bytes}
 use Rattle.comp_terms.specs.Generated.{has_shim_module, has_fixup, shims_number, fixup_number, GeneratedBytes, AreGenerated}
 use Rattle.comp_worlds.specs.Bases.{cell_type}
@@ -151,7 +151,7 @@ pub record InstantiatesFixup (w : ComponentWorld) (earlier : List Def) (number :
   pub any : has_fixup w ≡ true
   pub scoped : number < items_in spaces.CoreModule earlier
   pub last : instances_in earlier ≡ made_before_fixup w
-  pub given : AllZip (IsFixupArgument w earlier) arguments (fixup_instances (shims_of w) (initialize_of w))
+  pub given : AllZip (IsFixupArgument w earlier) arguments (fixup_instances (shims_of w) (initialize_of w) (hook_of w))
 
 abbrev pub InstantiatesModule : ComponentWorld → List Def → ℕ → List CoreArgument → Type 0
 InstantiatesModule w earlier number arguments = InstantiatesUser w earlier number arguments ⊎ InstantiatesShims w earlier number arguments ⊎ InstantiatesFixup w earlier number arguments

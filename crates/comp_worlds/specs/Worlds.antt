@@ -33,6 +33,7 @@ use Rattle.comp_worlds.specs.declared.world.ValidatedModule.{ValidatedModule}
 use Rattle.world_values.specs.ExportForms.{IsExportForm, IsFormed}
 use Rattle.world_values.specs.Items.{functions_of, functions_in}
 use Rattle.world_values.specs.Mentions.{interface_in}
+use Rattle.comp_worlds.specs.Hooking.{are_hooked}
 use Rattle.comp_worlds.specs.Lookups.{found_module}
 use Rattle.comp_worlds.specs.Lowerings.{IsImportForm}
 use Rattle.comp_worlds.specs.Offered.{OffersItem, NamedOffers, AdapterOffers, MemoryMatches}
@@ -149,7 +150,7 @@ pub record ExportsFunctionOf (w : ComponentWorld) (key : WorldKey) (id : Interfa
 
 -- the role of an export is a function that the world exports, at its root or in an interface,
 -- called in one of the forms of exports, the post-return or the callback of one, the destructor of a
--- resource, the memory, or a realloc
+-- resource, the memory, a realloc, what a module is initialized with, or a task hook
 abbrev pub IsExportRole : ComponentWorld → Export → Type 0
 IsExportRole w (exports.WorldFunc (keys.Name text) function abi) = Contains (exported_functions w) text × (function ≡ text) × IsExportForm abi
 IsExportRole w (exports.InterfaceFunc key id function abi) = ExportsFunctionOf w key id function × IsExportForm abi
@@ -164,6 +165,7 @@ IsExportRole w exports.GeneralPurposeImportRealloc = Unit {0}
 IsExportRole w exports.GeneralPurposeExportRealloc = Unit {0}
 IsExportRole w exports.ReallocForAdapter = Unit {0}
 IsExportRole w exports.Initialize = Unit {0}
+IsExportRole w exports.WasmTaskHook = Unit {0}
 IsExportRole w role = ⊥
 
 -- a required export is one of the world's, and the module has a core export for each of its
@@ -202,3 +204,5 @@ pub record IsWorld (w : ComponentWorld) : Type 0 where
   -- adapters have names of their own, and no key has to be exported twice
   pub adapters_apart : IsDistinct bytes_eq (keys_of w.adapters)
   pub keys_apart : IsDistinct is_same_key (keys_required w)
+  -- where main has a task hook, there is nothing but main's initialization round which it is called
+  pub unhooked : are_hooked w.main w.adapters ≡ false

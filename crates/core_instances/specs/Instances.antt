@@ -30,7 +30,7 @@ use Rattle.root_imports.specs.RootScopes.{AreTablesRight, ArePassed}
 use Rattle.root_imports.specs.Imports.{FindsImports, FindsUsed}
 use Rattle.shim_plan.specs.declared.fault.ShimFault.{ShimFault}
 use Rattle.shim_plan.specs.declared.fault.ShimFault.TheVariants as plan
-use Rattle.world_shims.specs.WorldShims.{shims_of, initialize_of, sections_of_fixup}
+use Rattle.world_shims.specs.WorldShims.{shims_of, initialize_of, hook_of, sections_of_fixup}
 use Rattle.main_fixup.specs.Filling.{IsShimsAt}
 use Rattle.core_options.specs.declared.fault.StateFault.{StateFault}
 use Rattle.core_options.specs.declared.fault.StateFault.TheVariants as faults
@@ -120,7 +120,7 @@ pub record IsFixupNext (w : ComponentWorld) (ds : List Def) (shim_instance : Opt
 -- the fixup's module and its instance
 pub record AddsFixup (w : ComponentWorld) (debug_names : Bool) (old new : List Def) : Type 0 where
   pub bytes : List ℕ
-  pub encodes : Encodes bytes (sections_of_fixup (shims_of w) (initialize_of w) debug_names)
+  pub encodes : Encodes bytes (sections_of_fixup (shims_of w) (initialize_of w) (hook_of w) debug_names)
   pub grows : Grows w old new (ModuleIs bytes ∷ InstanceOf (fixup_number w) ∷ [])
 
 -- the same, where there is a fixup

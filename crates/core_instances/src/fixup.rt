@@ -1,4 +1,4 @@
-//! The fixup, which puts lowerings behind the shims, and initializes main.
+//! The fixup, which puts lowerings behind the shims, and initializes main, with its task hook round that.
 #![tactic(auto, using(comp_items::proofs::Extending::extends_none, comp_items::proofs::Extending::extends_same, comp_items::proofs::Extending::extends_then, main_fixup::proofs::Filled::kept_as_is, main_fixup::proofs::Filled::kept_added))]
 
 ghost use Rattle.std.specs.Prelude.{◌≡◌, IfErr, OnOk};
@@ -40,7 +40,8 @@ pub(crate) fn encode_indirect_lowerings(
 {
     let alloc = root.items.allocator();
     let initialize = root.world.main.exports.initialize();
-    let Some(fixup) = fixup_of_shims(alloc, shims, initialize, debug_names)? else {
+    let hook = root.world.main.exports.wasm_task_hook();
+    let Some(fixup) = fixup_of_shims(alloc, shims, initialize, hook, debug_names)? else {
         return Ok(());
     };
     let module = fixup.module.core_module(alloc)?;

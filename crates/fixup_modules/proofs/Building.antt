@@ -9,7 +9,8 @@ use Rattle.interned_types.specs.Interning.{is_type, interned, type_index}
 use Rattle.interned_types.proofs.TypeIndices.{type_at}
 use Rattle.fixup_modules.specs.declared.instances.ImportedInstance.TheVariants as instances
 use Rattle.fixup_modules.specs.Imports.{entry_of, with_import}
-use Rattle.fixup_modules.specs.Fixups.{Fixup, thunk, thunk_item, with_type, with_shim, with_initialize, shim_target}
+use Rattle.core_runs.specs.Expected.{hook_signature}
+use Rattle.fixup_modules.specs.Fixups.{Fixup, thunk, thunk_item, hook_item, with_type, with_shim, with_user, with_initialize, with_task_hook, with_wrapper, shim_target}
 use Rattle.fixup_modules.specs.Laws.{NamedShim, IsTarget, AddedShimsAreFilled}
 use Rattle.fixup_modules.proofs.Named.{is_there, entries_grow}
 
@@ -48,6 +49,15 @@ added_shims_are_filled = record {
       let item = thunk_item f.types in
       let more = entries_grow f.imported instances.Main name item in
       AllZip-weaker (λ s function t. target_kept f (with_initialize f name) more.0 s function (λ i t' h. type_kept f.types thunk t' i h) more.1 t) shims f.fills filled;
+  more_users = λ f shims action filled.
+      AllZip-weaker (λ s function t. target_kept f (with_user f action) [] s function (λ i t' h. h) (sym (append-nil f.imported.entries)) t) shims f.fills filled;
+  one_hook = λ f shims name filled.
+      let item = hook_item f.types in
+      let more = entries_grow f.imported instances.Main name item in
+      AllZip-weaker (λ s function t. target_kept f (with_task_hook f name) more.0 s function (λ i t' h. type_kept f.types hook_signature t' i h) more.1 t) shims f.fills filled;
+  one_wrapper = λ f shims hook instance name type bracket filled.
+      let more = entries_grow f.imported instance name (shim_target f.types type) in
+      AllZip-weaker (λ s function t. target_kept f (with_wrapper f hook instance name type bracket) more.0 s function (λ i t' h. type_kept f.types type t' i h) more.1 t) shims f.fills filled;
   more_types = λ f shims type filled.
       AllZip-weaker (λ s function t. target_kept f (with_type f type) [] s function (λ i t' h. type_kept f.types type t' i h) (sym (append-nil f.imported.entries)) t) shims f.fills filled;
   more_imports = λ f shims instance field item filled.

@@ -25,11 +25,11 @@ use Rattle.fixup_modules.specs.declared.instances.ImportedInstance.TheVariants a
 use Rattle.interned_types.specs.Interning.{interned}
 use Rattle.fixup_modules.specs.Imports.{Imported, is_kind, of_kind, count_of, entry_of, MayImport}
 use Rattle.fixup_modules.specs.Fixups.{Fixup, thunk}
-use Rattle.fixup_modules.specs.Sections.{table_name, shim_table, with_table, table_index, fill_segment, if_none, all_imported, table_of, by_calls, own_type, types_of, fixup_sections}
-use Rattle.fixup_modules.specs.Laws.{NamedShim, IsTarget, IsSupplied, FixupsFillShims, FixupsCall, call_of}
+use Rattle.fixup_modules.specs.Sections.{table_name, shim_table, with_table, table_index, fill_segment, if_none, all_imported, table_of, needs_own, types_of, function_types, bodies_of, fixup_sections}
+use Rattle.fixup_modules.specs.Laws.{NamedShim, IsTarget, IsSupplied, FixupsFillShims, FixupsCall, calls_of}
 use Rattle.fixup_modules.proofs.Named.{both, is_there, entries_grow}
 use Rattle.fixup_modules.proofs.Building.{type_kept}
-use Rattle.fixup_modules.proofs.Making.{segments_if, entities_of, fixup_parts, parts_are, own_if, frame_of, made_with, instance_is, failed, starts}
+use Rattle.fixup_modules.proofs.Making.{segments_if, entities_of, fixup_parts, parts_are, frame_of, HasFunctions, made_with, has_functions, instance_is, failed, starts}
 
 -- ---- types that are the same are one
 
@@ -171,13 +171,12 @@ imports_grow f = by f.fills
     by [] = ([], sym (append-nil f.imported.entries))
     by (x ∷ xs) = entries_grow f.imported instances.Shim table_name (shim_table f)
 
-types_stay : (f : Fixup) (i : ℕ) (type : FuncType) → slice_get f.types i ≡ Some type → slice_get (types_of f) i ≡ Some type
-types_stay f i type h = by f.calls
+pub types_stay : (f : Fixup) (i : ℕ) (type : FuncType) → slice_get f.types i ≡ Some type → slice_get (types_of f) i ≡ Some type
+types_stay f i type h = by (needs_own f.users)
   where
-    by : (calls : List ℕ) → slice_get (by_calls calls f.types (λ function. f.types) (interned f.types thunk)) i ≡ Some type
-    by [] = h
-    by (g ∷ []) = h
-    by (g ∷ k ∷ gs) = type_kept f.types thunk type i h
+    by : (needed : Bool) → slice_get (if needed then interned f.types thunk else f.types) i ≡ Some type
+    by false = h
+    by true = type_kept f.types thunk type i h
 
 module _ (f : Fixup) (later : Store) (moment : Now) (supply : Import → Option Given) (given : List Given) (supplied : IsSupplied supply (all_imported f).entries given) (matching : Matching (types_of f) later moment (all_imported f).entries given) where
   -- the import that is there
@@ -267,19 +266,27 @@ all_among xs ys (i ∷ is) found e = by (slice_get xs i) refl (all_at xs is) ref
     by (Some x) at None others more e = cc
     by None at r others more e = cc
 
--- the instance, where its segment leaves these tables
-split_made : (f : Fixup) (debug_names : Bool) (given : List Given) (later : Store) (moment : Now) (fixed : Made) → instance_of (parts_of (fixup_sections f debug_names)) given later moment ≡ Some fixed → Matching (types_of f) later moment (all_imported f).entries given
+-- what is given matches, and there are functions for all bodies
+pub record IsSplit (f : Fixup) (given : List Given) (later : Store) (moment : Now) : Type 0 where
+  pub matching : Matching (types_of f) later moment (all_imported f).entries given
+  pub functions : List Func
+  pub has : HasFunctions f given later moment functions
+
+pub split_made : (f : Fixup) (debug_names : Bool) (given : List Given) (later : Store) (moment : Now) (fixed : Made) → instance_of (parts_of (fixup_sections f debug_names)) given later moment ≡ Some fixed → IsSplit f given later moment
 split_made f debug_names given later moment fixed is =
     let m = fixup_parts f in
     let frame = new_frame m given later moment in
-    (if_split (matches_each (types_of f) later moment (entities_of f) given) (made_of m frame later moment (own_functions frame m.functions m.bodies) (Some [])) fixed
-    (ap (λ p. instance_of p given later moment) (sym (parts_are f debug_names)) ∙ is)).0
+    let split = if_split (matches_each (types_of f) later moment (entities_of f) given) (made_of m frame later moment (own_functions frame m.functions m.bodies) (Some [])) fixed
+    (ap (λ p. instance_of p given later moment) (sym (parts_are f debug_names)) ∙ is) in
+    let own = has_functions f given later moment fixed split.1 in
+    record { matching = split.0; functions = own.0; has = own.1 }
 
-made_is : (f : Fixup) (debug_names : Bool) (given : List Given) (later : Store) (moment : Now) (fixed : Made) (tables : List (List (Option ℕ))) → instance_of (parts_of (fixup_sections f debug_names)) given later moment ≡ Some fixed →
-    elements_done (frame_of f given later moment) (segments_if (table_of f) f.fills) (later.tables ++ []) ≡ Some tables → made_with f given later moment tables ≡ fixed
-made_is f debug_names given later moment fixed tables is filled =
-    same_Some (made_with f given later moment tables) fixed
-    (sym (instance_is f given later moment tables (split_made f debug_names given later moment fixed is) filled) ∙ ap (λ p. instance_of p given later moment) (sym (parts_are f debug_names)) ∙ is)
+-- the instance, where its segment leaves these tables
+made_is : (f : Fixup) (debug_names : Bool) (given : List Given) (later : Store) (moment : Now) (fixed : Made) (tables : List (List (Option ℕ))) (k : IsSplit f given later moment) → instance_of (parts_of (fixup_sections f debug_names)) given later moment ≡ Some fixed →
+    elements_done (frame_of f given later moment) (segments_if (table_of f) f.fills) (later.tables ++ []) ≡ Some tables → made_with f given later moment k.functions tables ≡ fixed
+made_is f debug_names given later moment fixed tables k is filled =
+    same_Some (made_with f given later moment k.functions tables) fixed
+    (sym (instance_is f given later moment k.functions tables k.has k.matching filled) ∙ ap (λ p. instance_of p given later moment) (sym (parts_are f debug_names)) ∙ is)
 
 -- ---- the law
 
@@ -292,7 +299,8 @@ type_at_slot (x ∷ xs) (y ∷ ys) (suc i) s same h = let e : map (λ (z : Named
 pub fixups_fill_shims : FixupsFillShims
 fixups_fill_shims f shims debug_names types slots store now made later moment supply called fixed h k =
     let frame = frame_of f k.given later moment in
-    let matching = split_made f debug_names k.given later moment fixed k.is_made in
+    let split = split_made f debug_names k.given later moment fixed k.is_made in
+    let matching = split.matching in
     let all = all_given later supply (functions_given k.given) shims f.fills (AllZip-weaker (λ s function t. target_given f later moment supply k.given k.supplied matching s function t) shims f.fills h.fills) in
     let new_address = length store.tables in
     let named : slice_get frame.tables (table_index f) ≡ Some new_address =
@@ -306,10 +314,10 @@ fixups_fill_shims f shims debug_names types slots store now made later moment su
     ap (λ o. elements_done frame (segments_if o f.fills) (later.tables ++ [])) (some_of f.fills None (Some (table_index f)) h.any)
     ∙ ap (λ l. elements_done frame (fill_segment (table_index f) f.fills ∷ []) l) (append-nil later.tables)
     ∙ ap (λ o. bind o (λ after. Some after)) filled in
-    let is = made_is f debug_names k.given later moment fixed full k.is_made done in
+    let is = made_is f debug_names k.given later moment fixed full split k.is_made done in
     let tables_are : fixed.store.tables ≡ full = ap (λ (x : Made). x.store.tables) (sym is) in
-    let functions_are : fixed.store.functions ≡ later.functions ++ own_if frame (own_type f) f.calls = ap (λ (x : Made). x.store.functions) (sym is) in
-    let more = own_if frame (own_type f) f.calls in
+    let functions_are : fixed.store.functions ≡ later.functions ++ split.functions = ap (λ (x : Made). x.store.functions) (sym is) in
+    let more = split.functions in
     record {
       addresses = all.addresses;
       targets = all.targets;
@@ -328,49 +336,46 @@ fixups_fill_shims f shims debug_names types slots store now made later moment su
 
 -- ---- what is called
 
--- its segment leaves some tables, and its own where it has none
-tables_after : (f : Fixup) (debug_names : Bool) (given : List Given) (later : Store) (moment : Now) (fixed : Made) → instance_of (parts_of (fixup_sections f debug_names)) given later moment ≡ Some fixed →
+-- its segment leaves some tables
+tables_after : (f : Fixup) (given : List Given) (later : Store) (moment : Now) (fixed : Made) (k : IsSplit f given later moment) → made_of (fixup_parts f) (frame_of f given later moment) later moment (own_functions (frame_of f given later moment) (function_types f) (bodies_of f)) (Some []) ≡ Some fixed →
     (tables : List (List (Option ℕ))) × (elements_done (frame_of f given later moment) (segments_if (table_of f) f.fills) (later.tables ++ []) ≡ Some tables)
-tables_after f debug_names given later moment fixed is = by (elements_done frame segments (later.tables ++ [])) refl
+tables_after f given later moment fixed k made = by (elements_done (frame_of f given later moment) (segments_if (table_of f) f.fills) (later.tables ++ [])) refl
   where
-    m : Parts
-    m = fixup_parts f
-
-    frame : Frame
-    frame = frame_of f given later moment
-
-    segments : List ElementSegment
-    segments = segments_if (table_of f) f.fills
-
-    made : instance_of m given later moment ≡ Some fixed
-    made = ap (λ p. instance_of p given later moment) (sym (parts_are f debug_names)) ∙ is
-
-    split : (matches_each (types_of f) later moment (entities_of f) given ≡ true) × (made_of m frame later moment (own_functions frame m.functions m.bodies) (Some []) ≡ Some fixed)
-    split = if_split (matches_each (types_of f) later moment (entities_of f) given) (made_of m frame later moment (own_functions frame m.functions m.bodies) (Some [])) fixed made
-
-    by : (o : Option (List (List (Option ℕ)))) → elements_done frame segments (later.tables ++ []) ≡ o → (tables : List (List (Option ℕ))) × (elements_done frame segments (later.tables ++ []) ≡ Some tables)
+    by : (o : Option (List (List (Option ℕ)))) → elements_done (frame_of f given later moment) (segments_if (table_of f) f.fills) (later.tables ++ []) ≡ o →
+        (tables : List (List (Option ℕ))) × (elements_done (frame_of f given later moment) (segments_if (table_of f) f.fills) (later.tables ++ []) ≡ Some tables)
     by (Some tables) e = (tables, e)
-    by None e =
-        let fails : made_of m frame later moment (own_functions frame m.functions m.bodies) (Some []) ≡ None = failed f given later moment e in
-        let no : None ≡ Some fixed = sym fails ∙ split.1 in cc
+    by None e = absurd (none-some fixed (sym (failed f given later moment k.functions k.has e) ∙ made))
+
+-- how it is made
+made_parts : (f : Fixup) (debug_names : Bool) (given : List Given) (later : Store) (moment : Now) (fixed : Made) → instance_of (parts_of (fixup_sections f debug_names)) given later moment ≡ Some fixed →
+    made_of (fixup_parts f) (frame_of f given later moment) later moment (own_functions (frame_of f given later moment) (function_types f) (bodies_of f)) (Some []) ≡ Some fixed
+made_parts f debug_names given later moment fixed is =
+    (if_split (matches_each (types_of f) later moment (entities_of f) given) (made_of (fixup_parts f) (frame_of f given later moment) later moment (own_functions (frame_of f given later moment) (function_types f) (bodies_of f)) (Some [])) fixed
+    (ap (λ p. instance_of p given later moment) (sym (parts_are f debug_names)) ∙ is)).1
+
+-- the functions that there are then
+pub functions_made : (f : Fixup) (debug_names : Bool) (given : List Given) (later : Store) (moment : Now) (fixed : Made) (k : IsSplit f given later moment) → instance_of (parts_of (fixup_sections f debug_names)) given later moment ≡ Some fixed → fixed.store.functions ≡ later.functions ++ k.functions
+functions_made f debug_names given later moment fixed k is =
+    let after = tables_after f given later moment fixed k (made_parts f debug_names given later moment fixed is) in
+    ap (λ (x : Made). x.store.functions) (sym (made_is f debug_names given later moment fixed after.0 k is after.1))
 
 pub fixups_call : FixupsCall
 fixups_call f debug_names later moment supply called fixed h =
-    let frame = frame_of f h.given later moment in
-    let matching = split_made f debug_names h.given later moment fixed h.is_made in
-    let after = tables_after f debug_names h.given later moment fixed h.is_made in
-    let is = made_is f debug_names h.given later moment fixed after.0 h.is_made after.1 in
-    let same_now : (made_with f h.given later moment after.0).now ≡ moment = ap (λ l. record moment { globals = l }) (append-nil moment.globals) in
+    let split = split_made f debug_names h.given later moment fixed h.is_made in
+    let matching = split.matching in
+    let after = tables_after f h.given later moment fixed split (made_parts f debug_names h.given later moment fixed h.is_made) in
+    let is = made_is f debug_names h.given later moment fixed after.0 split h.is_made after.1 in
+    let same_now : (made_with f h.given later moment split.functions after.0).now ≡ moment = ap (λ l. record moment { globals = l }) (append-nil moment.globals) in
     record {
-      more_functions = own_if frame (own_type f) f.calls;
+      more_functions = split.functions;
       functions = ap (λ (x : Made). x.store.functions) (sym is);
       memories = ap (λ (x : Made). x.store.memories) (sym is) ∙ append-nil later.memories;
       tables = λ none. ap (λ (x : Made). x.store.tables) (sym is) ∙ unfilled none after.1;
       starts =
           ap (λ p. started p fixed) (parts_are f debug_names)
           ∙ ap (λ (x : Made). started (fixup_parts f) x) (sym is)
-          ∙ starts f h.given later moment after.0 called h.are_called (counts_given (types_of f) later moment (all_imported f).entries h.given matching).0
-          ∙ ap (λ (n : Now). deeds_done (map call_of called) n) same_now;
+          ∙ starts f h.given later moment split.functions after.0 called split.has h.are_called (counts_given (types_of f) later moment (all_imported f).entries h.given matching).0
+          ∙ ap (λ (n : Now). deeds_done (calls_of f.users called) n) same_now;
     }
   where
     unfilled : {tables : List (List (Option ℕ))} → f.fills ≡ [] → elements_done (frame_of f h.given later moment) (segments_if (table_of f) f.fills) (later.tables ++ []) ≡ Some tables → tables ≡ later.tables

@@ -158,6 +158,7 @@ is_world = record {
   adapters = tt;
   adapters_apart = none_apart;
   keys_apart = one_key_apart key;
+  unhooked = refl;
 }
 
 has_tables : HasTables world
@@ -236,7 +237,7 @@ pub shims_made : sections_of_shims None None (shims_of world) false ≡ shim_mod
 unfolding values_from digits
 shims_made = refl
 
-pub fixup_made : sections_of_fixup (shims_of world) None false ≡ fixup_module
+pub fixup_made : sections_of_fixup (shims_of world) None None false ≡ fixup_module
 unfolding values_from digits
 fixup_made = refl
 

@@ -149,6 +149,7 @@ is_world = record {
   );
   adapters_apart = one_apart a;
   keys_apart = two_keys_apart;
+  unhooked = refl;
 }
 
 -- ---- a list for it

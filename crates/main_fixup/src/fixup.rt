@@ -10,7 +10,7 @@ ghost use Rattle.comp_terms.specs.Rules.{Grows, ModuleIs, InstanceOf, instances_
 ghost use Rattle.core_types.specs.Core.{IsCoreModule};
 ghost use Rattle.main_fixup.specs.Filling.{HasShimOptions, IsShimsAt, HasFillSources, IsFillCause};
 ghost use Rattle.root_imports.specs.Keeping.{RootKept};
-ghost use Rattle.world_shims.specs.WorldShims.{shims_of, initialize_of, fixup_instances};
+ghost use Rattle.world_shims.specs.WorldShims.{shims_of, initialize_of, hook_of, fixup_instances};
 
 use crate::arguments::fixup_arguments;
 use crate::sources::FillSources;
@@ -43,7 +43,8 @@ pub fn encode_fixup(
         → IsShimsAt root.old.world.now root.old.items.defs shim_instance }
     requires binary { IsCoreModule «module».now }
     requires instances { instances.now
-        ≡ fixup_instances (shims_of root.old.world.now) (initialize_of root.old.world.now) }
+        ≡ fixup_instances (shims_of root.old.world.now) (initialize_of root.old.world.now)
+        (hook_of root.old.world.now) }
     requires last { instances_in root.old.items.defs ≡ made_before_fixup root.old.world.now }
     requires next { items_in spaces.CoreModule root.old.items.defs
         ≡ fixup_number root.old.world.now }

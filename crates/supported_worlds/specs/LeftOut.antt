@@ -4,12 +4,13 @@
 -- that it imports, in their order and with all resources of the root among them, core imports and
 -- exports with the role of such a function, core imports that drop a resource, or make or read a
 -- handle of one that their module has to export, or return from a function that is exported, or are
--- a wait, a function of error contexts, one of a stream or a future, main's
--- memory, an export of main, a function that an adapter exports, an item of an argument of a library,
--- a built-in function without operands or a function of the thread-local base, and core exports that
--- are a post-return, a callback, a destructor, a memory or a realloc; of main, of adapters and of
--- libraries. All else is left out, and reported by the name of its kind. (The names are those of this
--- project's record.)
+-- a wait, a function of error contexts, one of a stream or a future, main's memory, an export of main,
+-- a function that an adapter exports, an item of an argument of a library, a built-in function without
+-- operands or a function of the thread-local base, and core exports that are a post-return, a callback,
+-- a destructor, a memory, a realloc, an initialization or a task hook; of main, of adapters and of
+-- libraries. Where main has a task hook, nothing but main's initialization may be there that the hook
+-- would be called round. All else is left out, and reported by the name of its kind. (The names are
+-- those of this project's record.)
 use Rattle.std.specs.Prelude.{ℕ, Bool, true, ◌++◌, List, length, codes, Option, Some, None, Result, Ok, Err, get_or, is_some, if◌then◌else◌}
 use Rattle.std.specs.List.{flat_map}
 use Rattle.std.specs.Map.{lookup}
@@ -38,6 +39,7 @@ use Rattle.world_values.specs.Items.{no_items, functions_of}
 use Rattle.world_values.specs.Mentions.{same_interface, interfaces_of}
 use Rattle.comp_worlds.specs.Encodable.{Entries}
 use Rattle.comp_worlds.specs.ExportOrder.{interface_among}
+use Rattle.comp_worlds.specs.Hooking.{are_hooked}
 use Rattle.comp_worlds.specs.WorldTables.{whole_of}
 use Rattle.comp_worlds.specs.declared.world.ComponentWorld.{ComponentWorld}
 use Rattle.comp_worlds.specs.declared.world.ValidatedModule.{ValidatedModule}
@@ -154,8 +156,8 @@ own_role_left_out r es required (imports.ExportedTaskReturn key interface f) = u
 own_role_left_out r es required role = own_payload_left_out r es required role (called_payload role)
 
 -- an export of a module, unless it is a function at the root or of an interface in one of the forms
--- of exports, the post-return or the callback of one, the destructor of a resource, a memory, or a
--- realloc
+-- of exports, the post-return or the callback of one, the destructor of a resource, a memory, a
+-- realloc, an initialization, or a task hook
 abbrev pub export_left_out : List TypeDef → Export → Option (List ℕ)
 export_left_out types (exports.WorldFunc (keys.Name text) name GuestExport) = None
 export_left_out types (exports.WorldFunc (keys.Name text) name GuestExportAsync) = None
@@ -174,6 +176,7 @@ export_left_out types exports.GeneralPurposeImportRealloc = None
 export_left_out types exports.GeneralPurposeExportRealloc = None
 export_left_out types exports.ReallocForAdapter = None
 export_left_out types exports.Initialize = None
+export_left_out types exports.WasmTaskHook = None
 export_left_out types role = Some (export_kind role)
 
 -- the imports from one module: the first that is left out; none is where a whole instance satisfies them
@@ -226,10 +229,18 @@ abbrev pub modules_left_out : WorldParts → World → List ℕ → ℕ → Opti
 modules_left_out p w places root =
     option_or (module_left_out p.resolve w.exports places root p.main_exports p.main) (first_some (adapter_left_out p.resolve w.exports places root) p.adapters)
 
+-- main's task hook, where it would be called round more than main's initialization
+abbrev pub hooks_left_out : WorldParts → Option (List ℕ)
+hooks_left_out p = if are_hooked p.main p.adapters then Some (codes "task-hook") else None
+
+-- the modules first, then the hook
+abbrev pub after_resources : WorldParts → World → Option (List ℕ)
+after_resources p w = option_or (modules_left_out p w (places_of p.resolve.types w.imports) (length w.imports)) (hooks_left_out p)
+
 -- what is left out of a world whose interfaces are apart: the order of its items first, then its
 -- resources, then its modules
 abbrev pub after_order : WorldParts → World → Option (List ℕ)
-after_order p w = option_or (resources_left_out p.resolve.types w.imports) (modules_left_out p w (places_of p.resolve.types w.imports) (length w.imports))
+after_order p w = option_or (resources_left_out p.resolve.types w.imports) (after_resources p w)
 
 abbrev pub rest_left_out : WorldParts → World → Option (List ℕ)
 rest_left_out p w = option_or (order_left_out p.resolve w) (after_order p w)

@@ -1,14 +1,15 @@
 -- The shims of a world, and the two modules that are generated for them, as values. (The rules are
 -- this project's own, over the core standard's modules.)
-use Rattle.std.specs.Prelude.{ℕ, Bool, List, [], ◌∷◌, ◌++◌, length, map, codes, Option, Some, None}
+use Rattle.std.specs.Prelude.{◌≡◌, ℕ, Bool, false, List, [], ◌∷◌, ◌++◌, length, map, codes, Option, Some, None}
 use Rattle.std.specs.List.{flat_map}
+use Rattle.std.specs.Str.{bytes_eq}
 use Rattle.core_types.specs.declared.types.FuncType.{FuncType}
 use Rattle.core_types.specs.declared.types.MemoryType.{MemoryType}
 use Rattle.core_types.specs.declared.types.ValType.{ValType}
 use Rattle.core_runs.specs.Cells.{getter_type, setter_type}
 use Rattle.core_bytes.specs.declared.section.Section.{Section}
 use Rattle.comp_roles.specs.CoreTypes.{core_type}
-use Rattle.comp_roles.specs.Lookups.{first_export, is_initialize}
+use Rattle.comp_roles.specs.Lookups.{first_export, is_initialize, is_task_hook}
 use Rattle.comp_roles.specs.declared.libraries.MainOrAdapter.{MainOrAdapter}
 use Rattle.comp_roles.specs.declared.libraries.MainOrAdapter.TheVariants as users
 use Rattle.comp_worlds.specs.declared.world.ComponentWorld.{ComponentWorld}
@@ -22,7 +23,7 @@ use Rattle.shim_modules.specs.declared.shims.ShimFunction.{ShimFunction}
 use Rattle.shim_modules.specs.declared.shims.ThreadCell.{ThreadCell}
 use Rattle.fixup_modules.specs.declared.instances.ImportedInstance.{ImportedInstance}
 use Rattle.fixup_modules.specs.declared.instances.ImportedInstance.TheVariants as instances
-use Rattle.fixup_modules.specs.Fixups.{Fixup, nothing_fixed, with_shim, with_initialize}
+use Rattle.fixup_modules.specs.Fixups.{Fixup, nothing_fixed, with_shim, with_initialize, with_task_hook}
 use Rattle.fixup_modules.specs.Sections.{fixup_sections}
 
 -- the user modules of a world: main, then the adapters in order
@@ -84,24 +85,41 @@ abbrev pub with_call : Fixup → Option (List ℕ) → Fixup
 with_call f None = f
 with_call f (Some name) = with_initialize f name
 
-abbrev pub fixup_of : List Shim → Option (List ℕ) → Fixup
-fixup_of shims initialize = with_call (fixup_with nothing_fixed shims) initialize
+-- main's task hook, where it has one, is called round what is done
+abbrev pub hook_of : ComponentWorld → Option (List ℕ)
+hook_of w = first_export is_task_hook w.main.exports.exports
 
-abbrev pub sections_of_fixup : List Shim → Option (List ℕ) → Bool → List Section
-sections_of_fixup shims initialize debug_names = fixup_sections (fixup_of shims initialize) debug_names
+abbrev pub with_hook : Fixup → Option (List ℕ) → Fixup
+with_hook f None = f
+with_hook f (Some name) = with_task_hook f name
+
+abbrev pub fixup_of : List Shim → Option (List ℕ) → Option (List ℕ) → Fixup
+fixup_of shims initialize hook = with_hook (with_call (fixup_with nothing_fixed shims) initialize) hook
+
+abbrev pub sections_of_fixup : List Shim → Option (List ℕ) → Option (List ℕ) → Bool → List Section
+sections_of_fixup shims initialize hook debug_names = fixup_sections (fixup_of shims initialize hook) debug_names
 
 -- the instances that its imports are from, by the names of its arguments, in order
 abbrev pub actual_if : List Shim → List (List ℕ × ImportedInstance)
 actual_if [] = []
 actual_if (s ∷ ss) = (codes "actual", instances.Actual) ∷ []
 
-abbrev pub main_if : Option (List ℕ) → List (List ℕ × ImportedInstance)
-main_if None = []
-main_if (Some name) = (codes "main", instances.Main) ∷ []
+abbrev pub of_main : List (List ℕ × ImportedInstance)
+of_main = (codes "main", instances.Main) ∷ []
+
+abbrev pub main_if : Option (List ℕ) → Option (List ℕ) → List (List ℕ × ImportedInstance)
+main_if None None = []
+main_if None (Some hook) = of_main
+main_if (Some name) hook = of_main
 
 abbrev pub shim_if : List Shim → List (List ℕ × ImportedInstance)
 shim_if [] = []
 shim_if (s ∷ ss) = (codes "shim", instances.Shim) ∷ []
 
-abbrev pub fixup_instances : List Shim → Option (List ℕ) → List (List ℕ × ImportedInstance)
-fixup_instances shims initialize = actual_if shims ++ (main_if initialize ++ shim_if shims)
+abbrev pub fixup_instances : List Shim → Option (List ℕ) → Option (List ℕ) → List (List ℕ × ImportedInstance)
+fixup_instances shims initialize hook = actual_if shims ++ (main_if initialize hook ++ shim_if shims)
+
+-- two functions of main, where there are both, have two names
+abbrev pub AreUnlike : Option (List ℕ) → Option (List ℕ) → Type 0
+AreUnlike (Some name) (Some hook) = bytes_eq hook name ≡ false
+AreUnlike initialize hook = Unit {0}

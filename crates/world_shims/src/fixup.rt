@@ -1,4 +1,4 @@
-//! The module that fills the table of the shims, and initializes main.
+//! The module that fills the table of the shims, and initializes main, with its task hook round that.
 
 ghost use Rattle.std.specs.Prelude.{◌≡◌, ◌+◌, ◌<◌, ◌^◌, length, IfOk, OnOk, IfErr};
 ghost use Rattle.fixup_modules.specs.Faults.{of_build};
@@ -6,7 +6,7 @@ ghost use Rattle.fixup_modules.specs.Fixups.{nothing_fixed, with_shim};
 ghost use Rattle.fixup_modules.specs.Sections.{encoded_fixup};
 ghost use Rattle.world_shims.specs.Refusals.{IsFullOrMemory, HasTooMany, IsOfCounts};
 ghost use Rattle.world_shims.specs.Fixing.{IsNext, IsFromActual};
-ghost use Rattle.world_shims.specs.WorldShims.{type_of_shim, fixup_with, with_call, fixup_of};
+ghost use Rattle.world_shims.specs.WorldShims.{type_of_shim, fixup_with, with_call, with_hook, fixup_of, AreUnlike};
 ghost use Rattle.std.specs.Option.{option_copied};
 
 use crate::core_type::core_type;
@@ -80,13 +80,40 @@ fn add_call(fixup: &mut FixupModule, initialize: Option<&str>) -> Result<(), Bui
     }
 }
 
+/// Lets the function be called with which main is initialized, and main's task hook before and after
+/// that, where main has them.
+#[tactic(auto, using(crate::proofs::Calling::hook_refused, crate::proofs::Calling::hook_too_many, crate::proofs::Calling::one_more_many))]
+fn add_calls(
+    fixup: &mut FixupModule,
+    initialize: Option<&str>,
+    hook: Option<&str>,
+) -> Result<(), BuildFault>
+    requires actual { IsFromActual fixup.old }
+    requires unlike { AreUnlike (option_copied initialize.entry) (option_copied hook.entry) }
+    ensures ok { OnOk result
+        (fixup.new
+        ≡ with_hook (with_call fixup.old (option_copied initialize.entry))
+        (option_copied hook.entry)) }
+    ensures cause { IfErr result IsFullOrMemory }
+    ensures many { IfErr result (HasTooMany (length fixup.old.fills + 2)) }
+{
+    add_call(fixup, initialize)?;
+    let Some(name) = hook else {
+        return Ok(());
+    };
+    match fixup.prepare_task_hooks(name) {
+        Ok(_) => Ok(()),
+        Err(fault) => Err(build_fault(fault)),
+    }
+}
+
 /// The module that is instantiated last, with its arguments, or `None` where there is nothing to
 /// do: it imports a function for each shim from `actual`, under the shim's name and with its type,
-/// the function `initialize`, where main has one, from `main`, and the table of the shims, where
-/// there are any, from `shim`; slot number i is filled with the function of shim number i; and then
-/// main is initialized.
+/// the function `initialize` and the task hook `hook`, where main has them, from `main`, and the
+/// table of the shims, where there are any, from `shim`; slot number i is filled with the function of
+/// shim number i; and then main is initialized, and the hook is called before and after that.
 ///
-/// It is refused with [`BuildFault::TooMany`] only where there are 2^32 - 1 shims or more, and with
+/// It is refused with [`BuildFault::TooMany`] only where there are 2^32 - 3 shims or more, and with
 /// [`BuildFault::Memory`] when out of memory.
 ///
 /// Core standard, structure: modules, element segments, start function.
@@ -95,15 +122,18 @@ pub fn fixup_of_shims(
     alloc: Global,
     shims: &Shims,
     initialize: Option<&str>,
+    hook: Option<&str>,
     debug_names: bool,
 ) -> Result<Option<EncodedFixup>, BuildFault>
+    requires { AreUnlike (option_copied initialize.entry) (option_copied hook.entry) }
     ensures ok { IfOk result (λ made. made
-        ≡ encoded_fixup (fixup_of shims.now (option_copied initialize.entry)) debug_names) }
+        ≡ encoded_fixup (fixup_of shims.now (option_copied initialize.entry)
+        (option_copied hook.entry)) debug_names) }
     ensures cause { IfErr result IsFullOrMemory }
-    ensures many { IfErr result (HasTooMany (length shims.now + 1)) }
+    ensures many { IfErr result (HasTooMany (length shims.now + 3)) }
 {
     let mut fixup = fixup_with_shims(alloc, shims)?;
-    add_call(&mut fixup, initialize)?;
+    add_calls(&mut fixup, initialize, hook)?;
     match fixup.encode(debug_names) {
         Ok(encoded) => Ok(encoded),
         Err(fault) => Err(build_fault(fault)),
