@@ -48,8 +48,10 @@ from costs import Sampler  # noqa: E402
 from verdicts import NAME as REFUSED  # noqa: E402
 
 SUM = re.compile(r"(\d+) passed, (\d+) failed(?:, (\d+) skipped)?")
-# The minutes after which no further crate's wrong bodies are begun.
+# The minutes of their step, and of the whole run, after which no further crate's wrong bodies are begun.
 MINUTES = 30
+WHOLE = 140
+BEGAN = time.time()
 SKIPPED = 77
 PYTHON = [sys.executable, "-u"]
 QUICK = ["graph", "documents", "tools", "edits", "cases"]
@@ -166,9 +168,14 @@ def place(top, begins):
             shutil.copyfile(f"{room}/{REFUSED}", f"{top}/{REFUSED}")
 
 
+def minutes_left(now):
+    """The minutes in which crates' wrong bodies are begun."""
+    return max(0, min(MINUTES, WHOLE - int((now - BEGAN) / 60)))
+
+
 def call_of(step, room, commit, tries_all):
     """The command of a step, and how its lines are read."""
-    due = [] if tries_all else ["--due", commit, "--minutes", str(MINUTES)]
+    due = [] if tries_all else ["--due", commit, "--minutes", str(minutes_left(time.time()))]
     return {
         "graph": ([*PYTHON, "tests/crate_graph.py", "--check"], run_program),
         "documents": ([*PYTHON, "tests/docs.py", "--check"], run_program),

@@ -14,5 +14,6 @@
 mod encode;
 mod state;
 
+pub use core_options::StateFault;
 pub use encode::encode_world;
 pub use state::{EncodingState, Step};
