@@ -110,7 +110,6 @@ type_of_export r items exports.GeneralPurposeExportRealloc = Some realloc_type
 type_of_export r items exports.ReallocForAdapter = Some realloc_type
 type_of_export r items exports.Initialize = Some initialize_type
 type_of_export r items exports.WasmTaskHook = Some hook_type
-type_of_export r items role = None
 
 -- an import of this type fits a role
 abbrev pub FitsRole : ComponentWorld → Import → ExternType → Type 0
