@@ -169,14 +169,14 @@ fn next_function(imports: &ImportTable, wrappers: &[Wrapper]) -> Result<u32, Shi
 
 /// The start function, where there is one: the module's own, which would have this index, or the only
 /// one that is called.
-fn start_function(own_index: u32, users: &[StartAction]) -> Option<u32>
+fn start_function(next: u32, users: &[StartAction]) -> Option<u32>
     ensures { (f : Fixup)
         → f.users ≡ users.now
-        → own_index f ≡ own_index
+        → own_index f ≡ next
         → result ≡ start_function f }
 {
     if needs_own(users) {
-        Some(own_index)
+        Some(next)
     } else {
         first_call(users)
     }

@@ -1,6 +1,6 @@
 //! A fixup module that is built call by call.
 
-ghost use Rattle.std.specs.Prelude.{◌≡◌, ◌+◌, ◌<◌, ◌^◌, ◌⊎◌, [], ◌∷◌, ◌++◌, length, Some, slice_get, OnOk, OnErr, IfOk, IfErr};
+ghost use Rattle.std.specs.Prelude.{◌≡◌, ◌+◌, ◌<◌, ◌≤◌, ◌^◌, ◌⊎◌, [], ◌∷◌, ◌++◌, length, Some, slice_get, OnOk, OnErr, IfOk, IfErr};
 ghost use Rattle.core_bytes.specs.declared.entity.EntityType.TheVariants as entities;
 ghost use Rattle.interned_types.specs.Interning.{type_index, interned};
 ghost use Rattle.core_runs.specs.declared.bracket.TaskHook.TheVariants.{InitializeStart, InitializeFinish};

@@ -197,6 +197,7 @@ by_cases p h f (twice what e) = nothing what (sym e ∙ h.once)
 by_cases p h f (names lack) = lack h.named
 by_cases p h f (order what e) = nothing what (sym e ∙ ap (λ b. unless b (codes "interface")) h.order)
 by_cases p h f (resources lack) = lack h.resources
+by_cases p h f (hooks is) = true≢false (sym is ∙ h.unhooked)
 by_cases p h f (import_role m import what there c e) =
     let encoded = each_encoded p h m there in
     none_of (λ i. role_left_out p i.role) (imports_of m.info) import what (imports_pass p m.info.imports.modules encoded.groups) c e
