@@ -152,9 +152,14 @@ ShimCause f name type e = SlotCause f.types f.imported f.fills instances.Actual 
 abbrev pub CallCause : Fixup → List ℕ → ShimFault → Type 0
 CallCause f name e = FunctionCause f.types f.imported instances.Main name thunk e
 
--- Why a wrapper can't be added: it has too many parameters, there are too many wrappers, or its function can't be imported.
+-- Why one can't be wrapped: there are too many wrappers, it has too many parameters, or it can't be imported.
+abbrev pub WrapperCause : List FuncType → Imported → List Wrapper → ImportedInstance → List ℕ → FuncType → ShimFault → Type 0
+WrapperCause types imported wrappers instance name type e =
+    IsFull (length wrappers) e ⊎ IsBeyond (length type.params) e ⊎ FunctionCause types imported instance name type e
+
+-- Why a wrapper can't be added.
 abbrev pub WrapCause : Fixup → ImportedInstance → List ℕ → FuncType → ShimFault → Type 0
-WrapCause f instance name type e = IsFull (length f.wrappers) e ⊎ IsBeyond (length type.params) e ⊎ FunctionCause f.types f.imported instance name type e
+WrapCause f instance name type e = WrapperCause f.types f.imported f.wrappers instance name type e
 
 -- Why the task hook can't be.
 abbrev pub HookCause : Fixup → List ℕ → ShimFault → Type 0

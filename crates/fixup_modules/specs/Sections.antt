@@ -103,8 +103,12 @@ own_index f = imported_functions f + length f.wrappers
 abbrev pub own_function : Fixup → Option ℕ
 own_function f = option_map (λ type. own_index f) (own_type f)
 
+-- the start function, where the module's own one would have this index
+abbrev pub start_of : ℕ → List StartAction → Option ℕ
+start_of own users = if needs_own users then Some own else first_call users
+
 abbrev pub start_function : Fixup → Option ℕ
-start_function f = if needs_own f.users then Some (own_index f) else first_call f.users
+start_function f = start_of (own_index f) f.users
 
 -- the body of the function of the module
 abbrev pub acting : List StartAction → Body
@@ -195,16 +199,21 @@ abbrev pub section_if : {A : Type 0} → (List A → Section) → List A → Lis
 section_if section [] = []
 section_if section (x ∷ xs) = section (x ∷ xs) ∷ []
 
+-- the module with these types and imports, the table and the type of its own function, where it has them, these slots,
+-- what is done at the start, and these wrappers
+abbrev pub sections_of : List FuncType → List Import → Option ℕ → Option ℕ → List ℕ → List StartAction → List Wrapper → Bool → List Section
+sections_of types entries table own fills users wrappers debug_names =
+    sections.Types types
+    ∷ sections.Imports entries
+    ∷ (section_if sections.Functions (map (λ (w : Wrapper). w.type_index) wrappers ++ types_if own)
+    ++ (section_if sections.Exports (exports_from (count_of kinds.Func entries) (wrapped_from 0 wrappers))
+    ++ (optional sections.Start (start_of (count_of kinds.Func entries + length wrappers) users)
+    ++ (optional (λ table. sections.Elements (fill_segment table fills ∷ [])) table
+    ++ (section_if sections.Code (map wrapper_body wrappers ++ bodies_if own users)
+    ++ names_of debug_names entries wrappers (option_map (λ type. count_of kinds.Func entries + length wrappers) own))))))
+
 abbrev pub fixup_sections : Fixup → Bool → List Section
-fixup_sections f debug_names =
-    sections.Types (types_of f)
-    ∷ sections.Imports (all_imported f).entries
-    ∷ (section_if sections.Functions (function_types f)
-    ++ (section_if sections.Exports (exports_of f)
-    ++ (optional sections.Start (start_function f)
-    ++ (optional (λ table. sections.Elements (fill_segment table f.fills ∷ [])) (table_of f)
-    ++ (section_if sections.Code (bodies_of f)
-    ++ names_of debug_names (all_imported f).entries f.wrappers (own_function f))))))
+fixup_sections f debug_names = sections_of (types_of f) (all_imported f).entries (table_of f) (own_type f) f.fills f.users f.wrappers debug_names
 
 -- the module, the instances that are its arguments, by name, and what its exports are
 abbrev pub module_with_instances : Fixup → Bool → EncodedFixup

@@ -7,7 +7,7 @@ ghost use Rattle.core_bytes.specs.declared.section.Section.TheVariants as sectio
 ghost use Rattle.fixup_modules.specs.Faults.{IsBeyond};
 ghost use Rattle.fixup_modules.specs.Imports.{count_of};
 ghost use Rattle.fixup_modules.specs.Fixups.{Fixup};
-ghost use Rattle.fixup_modules.specs.Sections.{all_imported, table_of, fill_segment, is_hook_call, function_called, needs_own, first_call, is_idle, own_type, own_index, types_of, start_function, types_if, bodies_if, wrapper_body, exports_from, wrapped_from, names_of, optional, section_if, fixup_sections, module_with_instances, encoded_fixup, MayEncode, TableCause, OwnTypeCause, EncodeCause};
+ghost use Rattle.fixup_modules.specs.Sections.{all_imported, table_of, fill_segment, is_hook_call, function_called, needs_own, first_call, is_idle, own_type, own_index, types_of, start_of, types_if, bodies_if, wrapper_body, exports_from, wrapped_from, names_of, optional, section_if, sections_of, fixup_sections, module_with_instances, encoded_fixup, MayEncode, TableCause, OwnTypeCause, EncodeCause};
 
 use crate::actions::StartAction;
 use crate::fault::ShimFault;
@@ -170,10 +170,7 @@ fn next_function(imports: &ImportTable, wrappers: &[Wrapper]) -> Result<u32, Shi
 /// The start function, where there is one: the module's own, which would have this index, or the only
 /// one that is called.
 fn start_function(next: u32, users: &[StartAction]) -> Option<u32>
-    ensures { (f : Fixup)
-        → f.users ≡ users.now
-        → own_index f ≡ next
-        → result ≡ start_function f }
+    ensures { result ≡ start_of next users.now }
 {
     if needs_own(users) {
         Some(next)
@@ -309,15 +306,9 @@ fn fixup_module(
     debug_names: bool,
 ) -> Result<Module, AllocError>
     requires { own_index ≡ count_of kinds.Func imports.now.entries + length wrappers.now }
-    ensures { (f : Fixup)
-        → types_of f ≡ types.now
-        → all_imported f ≡ imports.now
-        → table_of f ≡ table
-        → own_type f ≡ own
-        → f.fills ≡ fills.now
-        → f.users ≡ users.now
-        → f.wrappers ≡ wrappers.now
-        → IfOk result (λ made. made ≡ fixup_sections f debug_names) }
+    ensures { IfOk result (λ made. made
+        ≡ sections_of types.now imports.now.entries table own fills.now users.now wrappers.now
+        debug_names) }
 {
     let mut module = Module::new(alloc);
     module.section(Section::Types(types.section(alloc)?))?;

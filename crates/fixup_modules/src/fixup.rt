@@ -11,7 +11,7 @@ ghost use Rattle.std.specs.Vec.{vec_len, vec_capacity};
 ghost use Rattle.core_runs.specs.Expected.{hook_signature};
 ghost use Rattle.fixup_modules.specs.declared.actions.StartAction.TheVariants as actions;
 ghost use Rattle.fixup_modules.specs.Faults.{IsFull, IsBeyond};
-ghost use Rattle.fixup_modules.specs.Fixups.{Fixup, nothing_fixed, thunk, thunk_item, hook_item, hooked, wrapper_of, with_type, with_shim, with_user, with_initialize, with_task_hook, with_wrapper, shim_target, TypeCause, FunctionCause, SlotCause, ShimCause, CallCause, HookCause, WrapCause};
+ghost use Rattle.fixup_modules.specs.Fixups.{Fixup, nothing_fixed, thunk, thunk_item, hook_item, hooked, wrapper_of, with_type, with_shim, with_user, with_initialize, with_task_hook, with_wrapper, shim_target, TypeCause, FunctionCause, SlotCause, ShimCause, CallCause, HookCause, WrapperCause, WrapCause};
 
 use crate::actions::StartAction;
 use crate::fault::ShimFault;
@@ -324,9 +324,8 @@ fn append_wrapper(
     ensures err { OnErr result ((types.new ≡ types.old)
         × (imports.new ≡ imports.old)
         × (wrappers.new.items ≡ wrappers.old.items)) }
-    ensures cause { IfErr result (λ e. IsFull (length wrappers.old.items) e
-        ⊎ IsBeyond (length ty.params) e
-        ⊎ FunctionCause types.old imports.old instance.now name.now ty e) }
+    ensures cause { IfErr result (WrapperCause types.old imports.old wrappers.old.items
+        instance.now name.now ty) }
 {
     next_count(wrappers.len() as u32)?;
     let params = param_count(&ty)?;

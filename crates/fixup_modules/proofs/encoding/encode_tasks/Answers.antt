@@ -13,6 +13,6 @@ returns-clause-ok c =
     let f : Fixup = record { types = c.args.types; imported = c.args.imports; fills = c.args.fills.now; users = c.args.users.now; wrappers = c.args.wrappers.now } in
     let build : List Section → List (List ℕ × ImportedInstance) → List WrapperExport → EncodedFixup = λ sections instances exports. record { «module» = sections; instances = instances; wrappers = exports } in
     ap₂ (λ sections instances. build sections instances c.in_ok-exports.exports)
-    (c.in_ok-module.ensures f (sym c.in_ok-own_type.ensures.types) (sym c.in_ok-table.ensures.imports) (sym c.in_ok-table.ensures.index) (sym c.in_ok-own_type.ensures.index) refl refl refl)
+    (c.in_ok-module.ensures ∙ rw (c.in_ok-own_type.ensures.types, c.in_ok-table.ensures.imports, c.in_ok-table.ensures.index, c.in_ok-own_type.ensures.index) refl)
     (c.into_instances.ensures ∙ ap (λ (m : Imported). m.instances) c.in_ok-table.ensures.imports)
-    ∙ ap (λ exports. build (fixup_sections f c.args.debug_names) (all_imported f).instances exports) c.in_ok-exports.ensures
+    ∙ ap (λ exports. build (fixup_sections f c.args.debug_names) (all_imported f).instances exports) c.in_ok-exports.ensures.ok
