@@ -89,7 +89,7 @@ fn add_calls(
     hook: Option<&str>,
 ) -> Result<(), BuildFault>
     requires actual { IsFromActual fixup.old }
-    requires unlike { AreUnlike (option_copied initialize.entry) (option_copied hook.entry) }
+    requires unlike { AreUnlike (option_copied initialize) (option_copied hook) }
     ensures ok { OnOk result
         (fixup.new
         ≡ with_hook (with_call fixup.old (option_copied initialize.entry))
@@ -125,7 +125,7 @@ pub fn fixup_of_shims(
     hook: Option<&str>,
     debug_names: bool,
 ) -> Result<Option<EncodedFixup>, BuildFault>
-    requires { AreUnlike (option_copied initialize.entry) (option_copied hook.entry) }
+    requires { AreUnlike (option_copied initialize) (option_copied hook) }
     ensures ok { IfOk result (λ made. made
         ≡ encoded_fixup (fixup_of shims.now (option_copied initialize.entry)
         (option_copied hook.entry)) debug_names) }
