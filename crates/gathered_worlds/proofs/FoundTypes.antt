@@ -307,4 +307,3 @@ module _ (r : Resolve) (present : 0 < length r.worlds) (core : CoreModule) where
   export_typed exports.Initialize items.Tag ty fits is = absurd (true≢false (sym fits))
   export_typed exports.WasmTaskHook (items.Entity e) ty fits is = entity_of core e dropping fits ∙ is
   export_typed exports.WasmTaskHook items.Tag ty fits is = absurd (true≢false (sym fits))
-  export_typed role item ty fits is = absurd (none-some ty is)
