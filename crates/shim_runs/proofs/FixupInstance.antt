@@ -412,7 +412,7 @@ fixup_run shims initialize hook debug_names actual main address table memory cel
       is_made = instance_is f values code now own tables (has now) (matches (machine c s now) h) (tables_left shims initialize hook actual main table first hooking code now h);
       exported = ap (λ l. all_some (map (export_at (frame_of f values code now)) l)) (no_exports f debug_names is.wrappers);
       starts =
-          starts f values code now own tables (started_at first hooking) called (has now) (counts_given (types_of f) code now (all_imported f).entries values (matches (machine c s now) h)).0
+          starts f values code now own tables (started_at first hooking) (has now) called (counts_given (types_of f) code now (all_imported f).entries values (matches (machine c s now) h)).0
           ∙ ap (λ l. deeds_done l (made now).now) deeds;
     } in
     let after : Next → List Value → Next = λ next values x. next (with_module_instance (record { module_number = number; given = given; exports = [] }) x) in
