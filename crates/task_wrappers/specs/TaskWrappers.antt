@@ -1,0 +1,76 @@
+-- Which functions of user modules are called with main's task hook round them, in order, and what each is (this
+-- project's own; Canonical ABI: `canon lift`, with its options `post-return`, `callback` and `realloc`).
+use Rattle.std.specs.Prelude.{ℕ, List, [], ◌∷◌, ◌++◌, Option, Some, None, is_some, if◌then◌else◌}
+use Rattle.std.specs.List.{flat_map}
+use Rattle.core_runs.specs.declared.bracket.Bracketed.{Bracketed}
+use Rattle.core_runs.specs.declared.bracket.Bracketed.TheVariants as brackets
+use Rattle.wit_data.specs.declared.functions.AbiVariant.{AbiVariant}
+use Rattle.wit_data.specs.declared.functions.AbiVariant.TheVariants as forms
+use Rattle.wit_data.specs.declared.worlds.WorldKey.{WorldKey}
+use Rattle.comp_roles.specs.FunctionExports.{is_post_return, is_callback}
+use Rattle.comp_roles.specs.Lookups.{Exports, first_export, is_task_hook}
+use Rattle.comp_roles.specs.Reallocs.{is_realloc}
+use Rattle.comp_roles.specs.declared.exports.Export.{Export}
+use Rattle.comp_roles.specs.declared.exports.Export.TheVariants as exports
+use Rattle.comp_roles.specs.declared.libraries.MainOrAdapter.{MainOrAdapter}
+use Rattle.comp_roles.specs.declared.libraries.MainOrAdapter.TheVariants as users
+use Rattle.comp_worlds.specs.declared.world.ComponentWorld.{ComponentWorld}
+use Rattle.comp_worlds.specs.declared.world.WorldAdapter.{WorldAdapter}
+use Rattle.task_wrappers.specs.declared.wrappers.TaskWrapper.{TaskWrapper}
+
+-- a function that a module exports under this name
+abbrev pub wrapper : MainOrAdapter → Bracketed → List ℕ → TaskWrapper
+wrapper of kind name = record { of = of; kind = kind; name = name }
+
+-- the same, where it exports one
+abbrev pub wrapper_if : MainOrAdapter → Bracketed → Option (List ℕ) → List TaskWrapper
+wrapper_if of kind None = []
+wrapper_if of kind (Some name) = wrapper of kind name ∷ []
+
+-- what the entry of a function is, by its form and its post-return
+abbrev pub entry_kind : AbiVariant → Option (List ℕ) → Bracketed
+entry_kind forms.GuestExportAsync post_return = brackets.AsyncEntryWithCallback
+entry_kind forms.GuestExportAsyncStackful post_return = brackets.StackfulEntry
+entry_kind form None = brackets.SyncEntry
+entry_kind form (Some name) = brackets.SyncEntryWithPostReturn
+
+-- the entry of a function of the world, required or not, with its post-return and its callback behind it
+abbrev pub function_wrappers : MainOrAdapter → Exports → List ℕ → WorldKey → List ℕ → AbiVariant → List TaskWrapper
+function_wrappers of all name key function form =
+    let post_return = first_export (is_post_return key function) all in
+    let callback = first_export (is_callback key function) all in
+    wrapper of (entry_kind form post_return) name ∷ (wrapper_if of brackets.PostReturn post_return ++ wrapper_if of brackets.Callback callback)
+
+abbrev pub export_wrappers : MainOrAdapter → Exports → List ℕ × Export → List TaskWrapper
+export_wrappers of all (name, exports.WorldFunc key function form) = function_wrappers of all name key function form
+export_wrappers of all (name, exports.InterfaceFunc key id function form) = function_wrappers of all name key function form
+export_wrappers of all (name, role) = []
+
+-- one of the three reallocs, used or not
+abbrev pub realloc_wrappers : MainOrAdapter → List ℕ × Export → List TaskWrapper
+realloc_wrappers of e = if is_realloc e.1 then wrapper of brackets.Realloc e.0 ∷ [] else []
+
+-- the functions of a module, and its reallocs, each in the order of its exports
+abbrev pub functions_of : MainOrAdapter → Exports → List TaskWrapper
+functions_of of all = flat_map (export_wrappers of all) all
+
+abbrev pub reallocs_of : MainOrAdapter → Exports → List TaskWrapper
+reallocs_of of all = flat_map (realloc_wrappers of) all
+
+-- the same of an adapter
+abbrev pub functions_of_adapter : List ℕ × WorldAdapter → List TaskWrapper
+functions_of_adapter a = functions_of (users.Adapter a.0) a.1.info.exports.exports
+
+abbrev pub reallocs_of_adapter : List ℕ × WorldAdapter → List TaskWrapper
+reallocs_of_adapter a = reallocs_of (users.Adapter a.0) a.1.info.exports.exports
+
+-- the functions of main and of the adapters, and then their reallocs
+abbrev pub all_functions : ComponentWorld → List TaskWrapper
+all_functions w = functions_of users.Main w.main.exports.exports ++ flat_map functions_of_adapter w.adapters
+
+abbrev pub all_reallocs : ComponentWorld → List TaskWrapper
+all_reallocs w = reallocs_of users.Main w.main.exports.exports ++ flat_map reallocs_of_adapter w.adapters
+
+-- nothing where main has no task hook
+abbrev pub task_wrappers : ComponentWorld → List TaskWrapper
+task_wrappers w = if is_some (first_export is_task_hook w.main.exports.exports) then all_functions w ++ all_reallocs w else []
