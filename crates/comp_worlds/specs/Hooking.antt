@@ -1,4 +1,4 @@
--- Round which exports of user modules main's task hook is called (this project's own).
+-- Round which exports of user modules main's task hook would be called, but isn't yet (this project's own).
 use Rattle.std.specs.Prelude.{◌&&◌, ◌||◌, ℕ, Bool, true, false, List, is_some}
 use Rattle.std.specs.List.{list_any}
 use Rattle.comp_roles.specs.Lookups.{first_export, is_task_hook}
@@ -7,10 +7,8 @@ use Rattle.comp_roles.specs.declared.exports.Export.TheVariants as exports
 use Rattle.comp_worlds.specs.declared.world.ValidatedModule.{ValidatedModule}
 use Rattle.comp_worlds.specs.declared.world.WorldAdapter.{WorldAdapter}
 
--- a function of the world, a realloc or a destructor; a post-return and a callback come with their function
+-- a realloc or a destructor; functions of the world, with their post-returns and callbacks, are wrapped
 abbrev pub is_hooked : Export → Bool
-is_hooked (exports.WorldFunc key function abi) = true
-is_hooked (exports.InterfaceFunc key id function abi) = true
 is_hooked (exports.ResourceDtor id) = true
 is_hooked exports.GeneralPurposeRealloc = true
 is_hooked exports.GeneralPurposeImportRealloc = true
@@ -25,6 +23,6 @@ has_hooked m = list_any (λ e. is_hooked e.1) m.exports.exports
 abbrev pub have_hooked : ValidatedModule → List (List ℕ × WorldAdapter) → Bool
 have_hooked main adapters = has_hooked main || list_any (λ a. has_hooked a.1.info) adapters
 
--- main has a task hook, and there is something round which it is called, apart from main's initialization
+-- main has a task hook, and there is one
 abbrev pub are_hooked : ValidatedModule → List (List ℕ × WorldAdapter) → Bool
 are_hooked main adapters = is_some (first_export is_task_hook main.exports.exports) && have_hooked main adapters

@@ -204,5 +204,5 @@ pub record IsWorld (w : ComponentWorld) : Type 0 where
   -- adapters have names of their own, and no key has to be exported twice
   pub adapters_apart : IsDistinct bytes_eq (keys_of w.adapters)
   pub keys_apart : IsDistinct is_same_key (keys_required w)
-  -- where main has a task hook, there is nothing but main's initialization round which it is called
+  -- where main has a task hook, there is no realloc and no destructor round which it would be called
   pub unhooked : are_hooked w.main w.adapters ≡ false

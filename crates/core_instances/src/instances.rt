@@ -50,7 +50,8 @@ fn fill_sources<'a>(
 /// bases of different types, `E7` where a function is lowered with a memory, or an import is main's
 /// memory, and main has none, `E8` where it is lowered with a realloc and there is none for the
 /// module, `E10` where an adapter names one that is not instantiated before it, and `E11` where an
-/// exported interface uses types of another one that isn't exported before it.
+/// exported interface uses types of another one that isn't exported before it, and `E12` where two
+/// instances from which the fixup imports have one name.
 pub fn encode_core_instantiation(
     root: &mut RootScope<'_, ComponentWorld>,
     functions: &Keyed<Text, u32>,
@@ -85,8 +86,10 @@ pub fn encode_core_instantiation(
     let world = root.world;
     let none = Keyed::new(root.items.allocator());
     let sources = sources_of(main_user(world), functions, &shims, generated, None, &none);
-    let instances = instantiate_users(root, &sources)?;
+    let mut instances = instantiate_users(root, &sources)?;
     let sources = fill_sources(functions, &instances);
-    encode_indirect_lowerings(root, &sources, &shims, generated.instance, debug_names)?;
+    let hooked =
+        encode_indirect_lowerings(root, &sources, &shims, generated.instance, debug_names)?;
+    instances.hooked = hooked;
     Ok(instances)
 }

@@ -247,5 +247,6 @@ pub(crate) fn instantiate_users(
         main: main.index,
         memory: main.memory,
         adapters,
+        hooked: None,
     })
 }

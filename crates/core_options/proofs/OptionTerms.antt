@@ -153,6 +153,7 @@ module _ (w : ComponentWorld) (ds : List Def) (set : ℕ) (memory realloc : Opti
   option_refused place faults.TlsTypes h = absurd h
   option_refused place (faults.NotYetMade adapter name) h = absurd h
   option_refused place (faults.LaterExport interface used) h = absurd h
+  option_refused place (faults.InstanceKind other) h = absurd h
   option_refused place (faults.NoMemory of) h = by (needs set 1) memory refl m h.0
     where
       by : (b : Bool) (memory : Option ℕ) → needs set 1 ≡ b → (IsTrue b → IsMemoryIf ds (main_memory w) memory) → IsTrue (b && not (is_some memory)) → IsTrue (needs set 1) × (memory_of_main w.main ≡ None) × (of ≡ place)

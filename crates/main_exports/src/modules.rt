@@ -57,6 +57,7 @@ fn export_module(
     let exports = ModuleExports {
         user,
         tables,
+        hooked: instances.hooked.as_ref(),
         sources: OptionSources {
             memory: instances.memory,
             realloc: export_realloc_of(

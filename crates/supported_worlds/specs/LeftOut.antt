@@ -8,8 +8,8 @@
 -- a function that an adapter exports, an item of an argument of a library, a built-in function without
 -- operands or a function of the thread-local base, and core exports that are a post-return, a callback,
 -- a destructor, a memory, a realloc, an initialization or a task hook; of main, of adapters and of
--- libraries. Where main has a task hook, nothing but main's initialization may be there that the hook
--- would be called round. All else is left out, and reported by the name of its kind. (The names are
+-- libraries. Where main has a task hook, there may be no realloc and no destructor that the hook would be
+-- called round. All else is left out, and reported by the name of its kind. (The names are
 -- those of this project's record.)
 use Rattle.std.specs.Prelude.{ℕ, Bool, true, ◌++◌, List, length, codes, Option, Some, None, Result, Ok, Err, get_or, is_some, if◌then◌else◌}
 use Rattle.std.specs.List.{flat_map}
@@ -229,7 +229,7 @@ abbrev pub modules_left_out : WorldParts → World → List ℕ → ℕ → Opti
 modules_left_out p w places root =
     option_or (module_left_out p.resolve w.exports places root p.main_exports p.main) (first_some (adapter_left_out p.resolve w.exports places root) p.adapters)
 
--- main's task hook, where it would be called round more than main's initialization
+-- main's task hook, where it would be called round a realloc or a destructor
 abbrev pub hooks_left_out : WorldParts → Option (List ℕ)
 hooks_left_out p = if are_hooked p.main p.adapters then Some (codes "task-hook") else None
 

@@ -1,4 +1,4 @@
-//! Whether main's task hook is called round anything but main's initialization.
+//! Whether main's task hook would be called round a realloc or a destructor.
 
 ghost use Rattle.std.specs.Prelude.{◌≡◌};
 ghost use Rattle.std.specs.List.{list_any};
@@ -10,14 +10,12 @@ use comp_lists::{Keyed, Text};
 use comp_roles::Export;
 use comp_worlds::{ValidatedModule, WorldAdapter, WorldParts};
 
-/// Whether the hook is called round an export of this role.
+/// Whether an export of this role is one.
 fn is_hooked(role: &Export) -> bool
     ensures { result ≡ is_hooked role.now }
 {
     match role {
-        Export::WorldFunc(..)
-        | Export::InterfaceFunc(..)
-        | Export::ResourceDtor(_)
+        Export::ResourceDtor(_)
         | Export::GeneralPurposeRealloc
         | Export::GeneralPurposeImportRealloc
         | Export::GeneralPurposeExportRealloc => true,
@@ -76,7 +74,7 @@ fn are_hooked(main: &ValidatedModule, adapters: &Keyed<Text, WorldAdapter>) -> b
     have_hooked(main, adapters)
 }
 
-/// The task hook, where it would be called round more than main's initialization.
+/// The task hook, where it would be called round a realloc or a destructor.
 pub(crate) fn hooks_left_out(parts: &WorldParts) -> Option<&'static str>
     ensures { option_copied result ≡ hooks_left_out parts.now }
 {

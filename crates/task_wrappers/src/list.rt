@@ -22,7 +22,7 @@ fn put_functions_of(
         (list.new.items ≡ list.old.items ++ functions_of_adapter (name.now, adapter.now)) }
 {
     let of = MainOrAdapter::Adapter(name.clone(alloc)?);
-    put_functions(alloc, list, &of, &adapter.info.exports)
+    put_functions(alloc, list, &of, &adapter.info)
 }
 
 /// Its reallocs.
@@ -36,7 +36,7 @@ fn put_reallocs_of(
         (list.new.items ≡ list.old.items ++ reallocs_of_adapter (name.now, adapter.now)) }
 {
     let of = MainOrAdapter::Adapter(name.clone(alloc)?);
-    put_reallocs(alloc, list, &of, &adapter.info.exports)
+    put_reallocs(alloc, list, &of, &adapter.info)
 }
 
 /// The functions of all adapters, in order.
@@ -77,7 +77,7 @@ fn put_all_functions(
 ) -> Result<(), AllocError>
     ensures { OnOk result (list.new.items ≡ list.old.items ++ all_functions world.now) }
 {
-    put_functions(alloc, list, &MainOrAdapter::Main, &world.main.exports)?;
+    put_functions(alloc, list, &MainOrAdapter::Main, &world.main)?;
     put_functions_of_each(alloc, list, &world.adapters)
 }
 
@@ -89,7 +89,7 @@ fn put_all_reallocs(
 ) -> Result<(), AllocError>
     ensures { OnOk result (list.new.items ≡ list.old.items ++ all_reallocs world.now) }
 {
-    put_reallocs(alloc, list, &MainOrAdapter::Main, &world.main.exports)?;
+    put_reallocs(alloc, list, &MainOrAdapter::Main, &world.main)?;
     put_reallocs_of_each(alloc, list, &world.adapters)
 }
 

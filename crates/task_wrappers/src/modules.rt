@@ -5,7 +5,8 @@ ghost use Rattle.task_wrappers.specs.TaskWrappers.{function_wrappers, export_wra
 ghost use Rattle.comp_roles.specs.Reallocs.{is_realloc};
 
 use crate::wrappers::{TaskWrapper, entry_kind, put, put_if};
-use comp_roles::{Export, ExportMap, MainOrAdapter};
+use comp_roles::{Export, MainOrAdapter};
+use comp_worlds::ValidatedModule;
 use core_runs::Bracketed;
 use std::alloc::{AllocError, Global};
 use wit_data::{AbiVariant, WorldKey};
@@ -15,7 +16,7 @@ fn put_function(
     alloc: Global,
     list: &mut Vec<TaskWrapper>,
     of: &MainOrAdapter,
-    exports: &ExportMap,
+    info: &ValidatedModule,
     name: &str,
     key: &WorldKey,
     function: &str,
@@ -23,17 +24,18 @@ fn put_function(
 ) -> Result<(), AllocError>
     ensures { OnOk result (list.new.items
         ≡ list.old.items
-        ++ function_wrappers of.now exports.now.exports name.now key.now function.now form) }
+        ++ function_wrappers of.now info.now name.now key.now function.now form) }
 {
-    let post_return = exports.post_return_of(key, function);
-    put(alloc, list, of, entry_kind(form, post_return), name)?;
-    put_if(alloc, list, of, Bracketed::PostReturn, post_return)?;
+    let post_return = info.exports.post_return_of(key, function);
+    put(alloc, list, of, info, entry_kind(form, post_return), name)?;
+    put_if(alloc, list, of, info, Bracketed::PostReturn, post_return)?;
     put_if(
         alloc,
         list,
         of,
+        info,
         Bracketed::Callback,
-        exports.callback_of(key, function),
+        info.exports.callback_of(key, function),
     )
 }
 
@@ -42,19 +44,19 @@ fn put_export(
     alloc: Global,
     list: &mut Vec<TaskWrapper>,
     of: &MainOrAdapter,
-    exports: &ExportMap,
+    info: &ValidatedModule,
     name: &str,
     role: &Export,
 ) -> Result<(), AllocError>
     ensures { OnOk result (list.new.items
-        ≡ list.old.items ++ export_wrappers of.now exports.now.exports (name.now, role.now)) }
+        ≡ list.old.items ++ export_wrappers of.now info.now (name.now, role.now)) }
 {
     match role {
         Export::WorldFunc(key, function, form) => put_function(
             alloc,
             list,
             of,
-            exports,
+            info,
             name,
             key,
             function.as_str(),
@@ -64,7 +66,7 @@ fn put_export(
             alloc,
             list,
             of,
-            exports,
+            info,
             name,
             key,
             function.as_str(),
@@ -79,13 +81,13 @@ pub(crate) fn put_functions(
     alloc: Global,
     list: &mut Vec<TaskWrapper>,
     of: &MainOrAdapter,
-    exports: &ExportMap,
+    info: &ValidatedModule,
 ) -> Result<(), AllocError>
     ensures { OnOk result
-        (list.new.items ≡ list.old.items ++ functions_of of.now exports.now.exports) }
+        (list.new.items ≡ list.old.items ++ functions_of of.now info.now) }
 {
-    for (name, role) in exports.iter() {
-        put_export(alloc, list, of, exports, name.as_str(), role)?;
+    for (name, role) in info.exports.exports.iter() {
+        put_export(alloc, list, of, info, name.as_str(), role)?;
     }
     Ok(())
 }
@@ -107,16 +109,17 @@ fn put_realloc(
     alloc: Global,
     list: &mut Vec<TaskWrapper>,
     of: &MainOrAdapter,
+    info: &ValidatedModule,
     name: &str,
     role: &Export,
 ) -> Result<(), AllocError>
     ensures { OnOk result (list.new.items
-        ≡ list.old.items ++ realloc_wrappers of.now (name.now, role.now)) }
+        ≡ list.old.items ++ realloc_wrappers of.now info.now (name.now, role.now)) }
 {
     if !is_realloc(role) {
         return Ok(());
     }
-    put(alloc, list, of, Bracketed::Realloc, name)
+    put(alloc, list, of, info, Bracketed::Realloc, name)
 }
 
 /// The reallocs of a module.
@@ -124,13 +127,13 @@ pub(crate) fn put_reallocs(
     alloc: Global,
     list: &mut Vec<TaskWrapper>,
     of: &MainOrAdapter,
-    exports: &ExportMap,
+    info: &ValidatedModule,
 ) -> Result<(), AllocError>
     ensures { OnOk result
-        (list.new.items ≡ list.old.items ++ reallocs_of of.now exports.now.exports) }
+        (list.new.items ≡ list.old.items ++ reallocs_of of.now info.now) }
 {
-    for (name, role) in exports.iter() {
-        put_realloc(alloc, list, of, name.as_str(), role)?;
+    for (name, role) in info.exports.exports.iter() {
+        put_realloc(alloc, list, of, info, name.as_str(), role)?;
     }
     Ok(())
 }

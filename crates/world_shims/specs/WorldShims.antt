@@ -2,7 +2,9 @@
 -- this project's own, over the core standard's modules.)
 use Rattle.std.specs.Prelude.{◌≡◌, ℕ, Bool, false, List, [], ◌∷◌, ◌++◌, length, map, codes, Option, Some, None}
 use Rattle.std.specs.List.{flat_map}
+use Rattle.std.specs.Option.{option_map}
 use Rattle.std.specs.Str.{bytes_eq}
+use Rattle.comp_lists.specs.Tables.{with_first}
 use Rattle.core_types.specs.declared.types.FuncType.{FuncType}
 use Rattle.core_types.specs.declared.types.MemoryType.{MemoryType}
 use Rattle.core_types.specs.declared.types.ValType.{ValType}
@@ -23,7 +25,11 @@ use Rattle.shim_modules.specs.declared.shims.ShimFunction.{ShimFunction}
 use Rattle.shim_modules.specs.declared.shims.ThreadCell.{ThreadCell}
 use Rattle.fixup_modules.specs.declared.instances.ImportedInstance.{ImportedInstance}
 use Rattle.fixup_modules.specs.declared.instances.ImportedInstance.TheVariants as instances
-use Rattle.fixup_modules.specs.Fixups.{Fixup, nothing_fixed, with_shim, with_initialize, with_task_hook}
+use Rattle.core_runs.specs.Hooks.{bracket_of}
+use Rattle.fixup_modules.specs.Imports.{import_index, has_other_type}
+use Rattle.fixup_modules.specs.Instances.{instance_name}
+use Rattle.fixup_modules.specs.Fixups.{Fixup, nothing_fixed, with_shim, with_initialize, hook_item, shim_target, with_task_hook, with_wrapper}
+use Rattle.task_wrappers.specs.declared.wrappers.TaskWrapper.{TaskWrapper}
 use Rattle.fixup_modules.specs.Sections.{fixup_sections}
 
 -- the user modules of a world: main, then the adapters in order
@@ -93,11 +99,50 @@ abbrev pub with_hook : Fixup → Option (List ℕ) → Fixup
 with_hook f None = f
 with_hook f (Some name) = with_task_hook f name
 
-abbrev pub fixup_of : List Shim → Option (List ℕ) → Option (List ℕ) → Fixup
-fixup_of shims initialize hook = with_hook (with_call (fixup_with nothing_fixed shims) initialize) hook
+-- the index of the hook
+abbrev pub hook_index : Fixup → Option (List ℕ) → Option ℕ
+hook_index f hook = option_map (λ name. import_index f.imported instances.Main name (hook_item f.types)) hook
 
-abbrev pub sections_of_fixup : List Shim → Option (List ℕ) → Option (List ℕ) → Bool → List Section
-sections_of_fixup shims initialize hook debug_names = fixup_sections (fixup_of shims initialize hook) debug_names
+-- a user module, as the fixup imports from its instance
+abbrev pub instance_of_user : MainOrAdapter → ImportedInstance
+instance_of_user users.Main = instances.Main
+instance_of_user (users.Adapter name) = instances.Adapter name
+
+-- the hook of this index is called round functions of user modules, as it is for what each of them is
+abbrev pub with_task_wrapper : Fixup → ℕ → TaskWrapper → Fixup
+with_task_wrapper f hook w = with_wrapper f hook (instance_of_user w.of) w.name w.ty (bracket_of w.kind)
+
+abbrev pub with_wrappers : Fixup → ℕ → List TaskWrapper → Fixup
+with_wrappers f hook [] = f
+with_wrappers f hook (w ∷ ws) = with_wrappers (with_task_wrapper f hook w) hook ws
+
+-- the same, where there is a hook
+abbrev pub wrapped : Fixup → Option ℕ → List TaskWrapper → Fixup
+wrapped f None ws = f
+wrapped f (Some hook) ws = with_wrappers f hook ws
+
+-- the function is imported with no other type
+abbrev pub IsTyped : Fixup → TaskWrapper → Type 0
+IsTyped f w = has_other_type f.imported (instance_of_user w.of) w.name (shim_target f.types w.ty) ≡ false
+
+abbrev pub AreTyped : Fixup → ℕ → List TaskWrapper → Type 0
+AreTyped f hook [] = Unit {0}
+AreTyped f hook (w ∷ ws) = IsTyped f w × AreTyped (with_task_wrapper f hook w) hook ws
+
+abbrev pub AreTypedIf : Fixup → Option ℕ → List TaskWrapper → Type 0
+AreTypedIf f None ws = Unit {0}
+AreTypedIf f (Some hook) ws = AreTyped f hook ws
+
+-- a fixup that fills the slots of these shims and initializes main, with the hook round that
+abbrev pub starting_fixup : List Shim → Option (List ℕ) → Option (List ℕ) → Fixup
+starting_fixup shims initialize hook = with_hook (with_call (fixup_with nothing_fixed shims) initialize) hook
+
+-- and with these wrappers
+abbrev pub fixup_of : List Shim → Option (List ℕ) → Option (List ℕ) → List TaskWrapper → Fixup
+fixup_of shims initialize hook ws = wrapped (starting_fixup shims initialize hook) (hook_index (with_call (fixup_with nothing_fixed shims) initialize) hook) ws
+
+abbrev pub sections_of_fixup : List Shim → Option (List ℕ) → Option (List ℕ) → List TaskWrapper → Bool → List Section
+sections_of_fixup shims initialize hook ws debug_names = fixup_sections (fixup_of shims initialize hook ws) debug_names
 
 -- the instances that its imports are from, by the names of its arguments, in order
 abbrev pub actual_if : List Shim → List (List ℕ × ImportedInstance)
@@ -116,8 +161,17 @@ abbrev pub shim_if : List Shim → List (List ℕ × ImportedInstance)
 shim_if [] = []
 shim_if (s ∷ ss) = (codes "shim", instances.Shim) ∷ []
 
-abbrev pub fixup_instances : List Shim → Option (List ℕ) → Option (List ℕ) → List (List ℕ × ImportedInstance)
-fixup_instances shims initialize hook = actual_if shims ++ (main_if initialize hook ++ shim_if shims)
+-- those that functions are wrapped of, each once, behind the ones that are there
+abbrev pub wrapped_sources : List (List ℕ × ImportedInstance) → List TaskWrapper → List (List ℕ × ImportedInstance)
+wrapped_sources known [] = known
+wrapped_sources known (w ∷ ws) = wrapped_sources (with_first bytes_eq known (instance_name (instance_of_user w.of)) (instance_of_user w.of)) ws
+
+abbrev pub sources_if : Option (List ℕ) → List TaskWrapper → List (List ℕ × ImportedInstance) → List (List ℕ × ImportedInstance)
+sources_if None ws known = known
+sources_if (Some hook) ws known = wrapped_sources known ws
+
+abbrev pub fixup_instances : List Shim → Option (List ℕ) → Option (List ℕ) → List TaskWrapper → List (List ℕ × ImportedInstance)
+fixup_instances shims initialize hook ws = sources_if hook ws (actual_if shims ++ main_if initialize hook) ++ shim_if shims
 
 -- two functions of main, where there are both, have two names
 abbrev pub AreUnlike : Option (List ℕ) → Option (List ℕ) → Type 0

@@ -7,4 +7,4 @@ abbrev pub invariant-loop-name : goal.invariant-loop-name
 invariant-loop-name l =
     goal.iterator-loop-name.can_next l.name-iterator ×
     goal.iterator-loop-name.is_finite l.name-iterator ×
-    (l.list.items ++ flat_map (realloc_wrappers l.of) l.name-iterator ≡ l.fn.list.items ++ flat_map (realloc_wrappers l.of) l.exports.exports)
+    (l.list.items ++ flat_map (realloc_wrappers l.of l.info) l.name-iterator ≡ l.fn.list.items ++ flat_map (realloc_wrappers l.of l.info) l.info.exports.exports)
