@@ -101,10 +101,10 @@ pub record IsWrapperExport (w : ComponentWorld) (e : CoreExport) (export_ref : E
 abbrev pub IsCalledFor : ComponentWorld → CoreExport → ExportRef → Type 0
 IsCalledFor w e export_ref = ((hook_of w ≡ None) × IsExportFor w e export_ref) ⊎ IsWrapperExport w e export_ref
 
--- the realloc of calls: the export itself, or a shim for it, where the calls are made before the
--- module that exports it is instantiated
+-- the realloc of calls: what is called for the export, or a shim for it, where the calls are made before the
+-- module that exports it is instantiated, or main has a task hook
 abbrev pub IsReallocFor : ComponentWorld → CoreExport → ExportRef → Type 0
-IsReallocFor w e export_ref = IsExportFor w e export_ref ⊎ IsShimExport w e (targets.ExportOf export_ref)
+IsReallocFor w e export_ref = IsCalledFor w e export_ref ⊎ IsShimExport w e (targets.ExportOf export_ref)
 
 abbrev pub IsOptionFor : ComponentWorld → TermOption → TargetOption → Type 0
 IsOptionFor w (terms.Encoding e) (targets.Encoding e') = e ≡ e'

@@ -6,7 +6,6 @@ pub mod Imported
 pub mod WorldContents
 pub mod Offered
 pub mod Typed
-pub mod Hooking
 pub mod Payloads
 pub mod Worlds
 pub mod Made

@@ -33,7 +33,6 @@ use Rattle.comp_worlds.specs.declared.world.ValidatedModule.{ValidatedModule}
 use Rattle.world_values.specs.ExportForms.{IsExportForm, IsFormed}
 use Rattle.world_values.specs.Items.{functions_of, functions_in}
 use Rattle.world_values.specs.Mentions.{interface_in}
-use Rattle.comp_worlds.specs.Hooking.{are_hooked}
 use Rattle.comp_worlds.specs.Lookups.{found_module}
 use Rattle.comp_worlds.specs.Lowerings.{IsImportForm}
 use Rattle.comp_worlds.specs.Offered.{OffersItem, NamedOffers, AdapterOffers, MemoryMatches}
@@ -204,5 +203,3 @@ pub record IsWorld (w : ComponentWorld) : Type 0 where
   -- adapters have names of their own, and no key has to be exported twice
   pub adapters_apart : IsDistinct bytes_eq (keys_of w.adapters)
   pub keys_apart : IsDistinct is_same_key (keys_required w)
-  -- where main has a task hook, there is no realloc and no destructor round which it would be called
-  pub unhooked : are_hooked w.main w.adapters ≡ false

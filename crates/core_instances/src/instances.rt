@@ -24,18 +24,25 @@ use exported_types::{ShimSources, define_exported_types};
 use main_fixup::FillSources;
 use main_instance::encode_shim_instantiation;
 use root_imports::RootScope;
+use shim_plan::Shims;
 
 /// What the fixup's lowerings are made from.
 fn fill_sources<'a>(
     functions: &'a Keyed<Text, u32>,
     instances: &'a UserInstances,
+    shims: &'a Shims,
+    shim_instance: Option<u32>,
 ) -> FillSources<'a>
     ensures functions { result.functions.now ≡ functions.now }
     ensures instances { result.instances.now ≡ instances.now }
+    ensures shims { result.shims.now ≡ shims.now }
+    ensures shim_instance { result.shim_instance ≡ shim_instance }
 {
     FillSources {
         functions,
         instances,
+        shims,
+        shim_instance,
     }
 }
 
@@ -87,9 +94,14 @@ pub fn encode_core_instantiation(
     let none = Keyed::new(root.items.allocator());
     let sources = sources_of(main_user(world), functions, &shims, generated, None, &none);
     let mut instances = instantiate_users(root, &sources)?;
-    let sources = fill_sources(functions, &instances);
-    let hooked =
-        encode_indirect_lowerings(root, &sources, &shims, generated.instance, debug_names)?;
+    let sources = fill_sources(functions, &instances, &shims, generated.instance);
+    let hooked = encode_indirect_lowerings(
+        root,
+        &sources,
+        &shims,
+        generated.instance,
+        debug_names,
+    )?;
     instances.hooked = hooked;
     Ok(instances)
 }

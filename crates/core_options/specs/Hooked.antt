@@ -37,4 +37,4 @@ hooked_instance (Some hooked) (Some name) e = hooked.instance
 hooked_instance hooked name e = e.instance
 
 abbrev pub called_name : Option (List ℕ) → InstanceExport → List ℕ
-called_name name e = unwrap_or name e.name.now
+called_name name e = unwrap_or name e.alias.now

@@ -118,6 +118,7 @@ pub record IsInstanceExport (w : ComponentWorld) (ds : List Def) (e : InstanceEx
   pub listed : slice_get (user_modules w) number ≡ Some exporting
   pub same : exporting.of ≡ user_of e.of
   pub offered : OffersFunction exporting.found e.name.now
+  pub itself : e.alias.now ≡ e.name.now
 
 -- an export of main, or of the module whose instance is the other one, by what a look-up across modules found
 abbrev pub instance_for : CustomModule → ℕ → ℕ → ℕ
@@ -125,7 +126,7 @@ instance_for named.Main main instance = main
 instance_for (named.Adapter name) main instance = instance
 
 abbrev pub placed_export : ℕ → ℕ → CustomModule × Bor (List ℕ) → InstanceExport
-placed_export main instance p = record { instance = instance_for p.0 main instance; of = p.0; name = p.1 }
+placed_export main instance p = record { instance = instance_for p.0 main instance; of = p.0; name = p.1; alias = p.1; debug = p.1 }
 
 -- ---- aliases
 
@@ -187,10 +188,18 @@ IsReallocIf w ds None None = Unit {0}
 IsReallocIf w ds (Some e) (Some index) = IsReallocOf w ds index e
 IsReallocIf w ds e index = ⊥
 
+-- the instance exports what calls have as their realloc for this export
+pub record IsReallocSource (w : ComponentWorld) (ds : List Def) (e : InstanceExport) : Type 0 where
+  pub exported : CoreExport
+  pub of : IsInstanceOf ds e.instance exported.of
+  pub function : exported.kind ≡ kinds.Func
+  pub aliased : exported.name ≡ e.alias.now
+  pub named : IsReallocFor w exported (export_ref_of e)
+
 -- main's memory, and the realloc, where there are any
 pub record AreOptionSources (w : ComponentWorld) (ds : List Def) (s : OptionSources) : Type 0 where
   pub memory : IsMemoryIf ds (main_memory w) s.memory
-  pub realloc : IfSome s.realloc (IsInstanceExport w ds)
+  pub realloc : IfSome s.realloc (IsReallocSource w ds)
 
 -- the options name what those of the target do, by terms between them
 pub record NameOptions (w : ComponentWorld) (ds : List Def) (written : List CanonicalOption) (options : List TargetOption) : Type 0 where

@@ -52,8 +52,8 @@ fn last_named<'a>(
     last
 }
 
-/// What is called for an export of a user module: the wrapper of the fixup's instance, where there is one, and
-/// otherwise the export itself.
+/// The export of a user module as it is called: by its wrapper, which the fixup's instance exports, where there is
+/// one, and otherwise itself.
 pub fn hooked_export<'a>(
     hooked: Option<&'a HookedExports>,
     export: InstanceExport<'a>,
@@ -62,7 +62,8 @@ pub fn hooked_export<'a>(
     ensures instance { result.instance
         ≡ hooked_instance (option_copied hooked.entry)
         (hooked_name (option_copied hooked.entry) export.entry) export.entry }
-    ensures name { result.name.now
+    ensures name { result.name ≡ export.entry.name }
+    ensures alias { result.alias.now
         ≡ called_name (hooked_name (option_copied hooked.entry) export.entry) export.entry }
 {
     let Some(hooked) = hooked else {
@@ -72,7 +73,9 @@ pub fn hooked_export<'a>(
         Some(name) => InstanceExport {
             instance: hooked.instance,
             of: export.of,
-            name: name.as_str(),
+            name: export.name,
+            alias: name.as_str(),
+            debug: name.as_str(),
         },
         None => export,
     }

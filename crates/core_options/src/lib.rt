@@ -26,8 +26,8 @@ pub use hooked::{HookedExports, hooked_export};
 pub use made::check_made;
 pub use memory_functions::{memory_for, memory_function};
 pub use modules::{
-    InstanceExport, UserInstances, UserModule, alias_if, alias_if_called, alias_of, alias_of_called,
-    export_realloc_of, import_realloc_of, payload_realloc_of,
+    InstanceExport, UserInstances, UserModule, alias_if, alias_if_called, alias_of,
+    alias_of_called, export_realloc_of, import_realloc_of, payload_realloc_of,
 };
 pub use options::{OptionSources, encoding_of, exported_memory, list_options, options_for};
 pub use payloads::{access_function, payload_encoding, payload_function};

@@ -13,7 +13,7 @@ ghost use Rattle.comp_links.specs.Modules.{module_found, user_modules};
 ghost use Rattle.comp_terms.specs.Rules.{Grows};
 ghost use Rattle.comp_terms.specs.Terms.{IsInstanceOf};
 ghost use Rattle.comp_worlds.specs.Encodable.{IsEncodable};
-ghost use Rattle.core_options.specs.MainOptions.{user_of, module_named, placed_export, export_ref_of, IsInstanceExport, IsAliasOf, IsAliasIf, AreHooked, IsCalledExport, IsCalledOf, IsCalledIf};
+ghost use Rattle.core_options.specs.MainOptions.{user_of, module_named, placed_export, export_ref_of, IsInstanceExport, IsAliasOf, IsAliasIf, IsReallocSource, IsReallocIf, AreHooked, IsCalledExport, IsCalledOf, IsCalledIf};
 ghost use Rattle.root_imports.specs.RootScopes.{IsRefusal};
 
 use crate::hooked::{HookedExports, hooked_export};
@@ -31,13 +31,17 @@ pub struct UserModule<'a> {
     pub found: &'a ValidatedModule,
 }
 
-/// A function that the instance of a user module exports.
+/// A function that a user module exports, and the instance that exports it, or what is called for it.
 #[derive(Clone, Copy)]
 pub struct InstanceExport<'a> {
-    /// The instance of the module.
+    /// That of the module, of the shims or of the fixup.
     pub instance: u32,
     pub of: CustomModule<'a>,
     pub name: &'a str,
+    /// The name under which the instance exports it.
+    pub alias: &'a str,
+    /// The name for debuggers of an alias of it.
+    pub debug: &'a str,
 }
 
 /// The instances of all user modules, main's, and those of the adapters by their names; main's memory; and
@@ -76,7 +80,9 @@ pub fn alias_of(
         (export_ref_of export.entry)) }
     ensures cause { IfErr result IsRefusal }
 {
-    let index = root.items.core_function(export.instance, export.name)?;
+    let index = root
+        .items
+        .named_function(export.debug, export.instance, export.alias)?;
     Ok(index)
 }
 
@@ -103,6 +109,29 @@ pub fn alias_if(
     }
 }
 
+/// The alias of what calls have as their realloc, if there is one.
+pub(crate) fn alias_of_realloc(
+    root: &mut RootScope<'_, ComponentWorld>,
+    export: Option<InstanceExport<'_>>,
+) -> Result<Option<u32>, BuildFault>
+    requires made { IfSome export (IsReallocSource root.old.world.now root.old.items.defs) }
+    ensures same { root.new ≡ record root.old { items = root.new.items } }
+    ensures extends { Extends root.old.items root.new.items }
+    ensures grows { OnOk result
+        (Grows root.old.world.now root.old.items.defs root.new.items.defs []) }
+    ensures alias { IfOk result (λ index. IsReallocIf root.old.world.now root.new.items.defs
+        (option_map export_ref_of export.entry) index) }
+    ensures cause { IfErr result IsRefusal }
+{
+    let Some(export) = export else {
+        return Ok(None);
+    };
+    let realloc = root
+        .items
+        .named_function(export.debug, export.instance, export.alias)?;
+    Ok(Some(realloc))
+}
+
 /// The alias of what is called for a function that an instance exports: where main has a task hook, what the fixup's
 /// instance exports for it.
 pub fn alias_of_called(
@@ -122,7 +151,9 @@ pub fn alias_of_called(
     ensures cause { IfErr result IsRefusal }
 {
     let called = hooked_export(hooked, export);
-    let alias = root.items.core_function(called.instance, called.name)?;
+    let alias = root
+        .items
+        .named_function(called.debug, called.instance, called.alias)?;
     Ok(alias)
 }
 
@@ -167,11 +198,15 @@ fn found_export<'a>(
             instance: main,
             of: CustomModule::Main,
             name,
+            alias: name,
+            debug: name,
         }),
         Some((CustomModule::Adapter(adapter), name)) => Some(InstanceExport {
             instance,
             of: CustomModule::Adapter(adapter),
             name,
+            alias: name,
+            debug: name,
         }),
         None => None,
     }

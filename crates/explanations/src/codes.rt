@@ -5,8 +5,8 @@ ghost use Rattle.explanations.specs.Codes.{of_encoding, of_lowering, of_fitting,
 
 use crate::texts::{
     C1, C2, C4, C5, E1, E3, E5, E6, E7, E8, E11, E12, E15, E16, F2, F5, F6, F7, F8, F9, F10, F11,
-    F12, F13, F14, F15, L1, L2, L3, L4, L5, L6, L7, L8, L9, L10, L11, L12, P2, P3, P4, P5, P6, P7, P8,
-    P9, P10, P11, P12, P14, R1,
+    F12, F13, F14, F15, L1, L2, L3, L4, L5, L6, L7, L8, L9, L10, L11, L12, P2, P3, P4, P5, P6, P7,
+    P8, P9, P10, P11, P12, P14, R1,
 };
 
 /// The codes of the encoder, and of components that are read.

@@ -26,11 +26,12 @@ use Rattle.core_runs.proofs.Deeds.{starts_act}
 use Rattle.interned_types.specs.Interning.{interned, type_index}
 use Rattle.interned_types.proofs.TypeIndices.{type_at}
 use Rattle.fixup_modules.specs.Imports.{Imported}
+use Rattle.fixup_modules.specs.declared.fills.Fill.{Fill}
 use Rattle.fixup_modules.specs.declared.actions.StartAction.{StartAction}
 use Rattle.fixup_modules.specs.declared.actions.StartAction.TheVariants as actions
 use Rattle.fixup_modules.specs.Fixups.{Fixup, thunk, step_of}
 use Rattle.fixup_modules.specs.declared.wrappers.Wrapper.{Wrapper}
-use Rattle.fixup_modules.specs.Sections.{all_imported, table_of, fill_segment, needs_own, own_type, own_index, types_of, imported_functions, start_function, own_function, acting, wrapper_body, types_if, bodies_if, function_types, bodies_of, exports_of, names_of, optional, section_if, fixup_sections}
+use Rattle.fixup_modules.specs.Sections.{all_imported, table_of, fill_segment, needs_own, own_type, own_index, types_of, imported_functions, start_function, own_function, acting, wrapper_body, types_if, bodies_if, function_types, bodies_of, exports_of, filling, names_of, optional, section_if, fixup_sections}
 use Rattle.fixup_modules.specs.Laws.{IsCalled, AreCalled, call_of, calls_of}
 
 -- ---- its parts
@@ -58,7 +59,7 @@ abbrev pub entities_of : Fixup → List EntityType
 entities_of f = map (λ (i : Import). i.entity) (all_imported f).entries
 
 abbrev pub fixup_parts : Fixup → Parts
-fixup_parts f = parts_with (types_of f) (entities_of f) (function_types f) (start_function f) (segments_if (table_of f) f.fills) (bodies_of f)
+fixup_parts f = parts_with (types_of f) (entities_of f) (function_types f) (start_function f) (segments_if (table_of f) (filling f)) (bodies_of f)
 
 names_alone : (debug_names : Bool) (entries : List Import) (wrappers : List Wrapper) (own : Option ℕ) → parts_of (names_of debug_names entries wrappers own) ≡ no_parts
 names_alone true entries wrappers own = refl
@@ -132,7 +133,7 @@ pub parts_are : (f : Fixup) (debug_names : Bool) → parts_of (fixup_sections f 
 parts_are f debug_names =
     let entries = (all_imported f).entries in
     let own = own_function f in
-    sections_are (types_of f) entries (function_types f) (exports_of f) (start_function f) (table_of f) f.fills (bodies_of f) (names_of debug_names entries f.wrappers own) (names_alone debug_names entries f.wrappers own)
+    sections_are (types_of f) entries (function_types f) (exports_of f) (start_function f) (table_of f) (filling f) (bodies_of f) (names_of debug_names entries f.wrappers own) (names_alone debug_names entries f.wrappers own)
 
 -- ---- the functions of the module
 
@@ -217,7 +218,7 @@ module _ (f : Fixup) (given : List Given) (store : Store) (now : Now) where
       by (Some functions) e is = (functions, e)
       by None e is = absurd (none-some fixed is)
 
-  pub instance_is : (functions : List Func) (tables : List (List (Option ℕ))) → HasFunctions functions → matches_each (types_of f) store now (entities_of f) given ≡ true → elements_done frame_of (segments_if (table_of f) f.fills) (store.tables ++ []) ≡ Some tables →
+  pub instance_is : (functions : List Func) (tables : List (List (Option ℕ))) → HasFunctions functions → matches_each (types_of f) store now (entities_of f) given ≡ true → elements_done frame_of (segments_if (table_of f) (filling f)) (store.tables ++ []) ≡ Some tables →
       instance_of (fixup_parts f) given store now ≡ Some (made_with functions tables)
   instance_is functions tables has matching filled =
       let m = fixup_parts f in
@@ -232,7 +233,7 @@ module _ (f : Fixup) (given : List Given) (store : Store) (now : Now) where
       ∙ ap (λ o. finish o) filled
 
 -- no instance is made where its segment fits no table
-pub failed : (f : Fixup) (given : List Given) (store : Store) (now : Now) (functions : List Func) → HasFunctions f given store now functions → elements_done (frame_of f given store now) (segments_if (table_of f) f.fills) (store.tables ++ []) ≡ None →
+pub failed : (f : Fixup) (given : List Given) (store : Store) (now : Now) (functions : List Func) → HasFunctions f given store now functions → elements_done (frame_of f given store now) (segments_if (table_of f) (filling f)) (store.tables ++ []) ≡ None →
     let m : Parts = fixup_parts f in made_of m (frame_of f given store now) store now (own_functions (frame_of f given store now) m.functions m.bodies) (Some []) ≡ None
 failed f given store now functions has e =
     let frame = frame_of f given store now in
@@ -245,7 +246,7 @@ failed f given store now functions has e =
 
 -- ---- places in lists
 
-range_at : (first count i : ℕ) → i < count → slice_get (range_with_len first count) i ≡ Some (first + i)
+pub range_at : (first count i : ℕ) → i < count → slice_get (range_with_len first count) i ≡ Some (first + i)
 range_at first zero i h = absurd (omega arith)
 range_at first (suc count) zero h = let e : first ≡ first + 0 = omega arith in ap (λ n. Some n) e
 range_at first (suc count) (suc i) h =
@@ -312,7 +313,7 @@ module _ (functions : List ℕ) (store : Store) (tables : List (List (Option ℕ
   means_each frame more later is (g ∷ gs) (a ∷ as') h = (means_one frame more later is g a h.0, means_each frame more later is gs as' h.1)
 
 -- the start function, where this is to be done
-module _ (types : List FuncType) (imported : Imported) (fills : List ℕ) (wrappers : List Wrapper) (given : List Given) (store : Store) (now : Now) (functions : List Func) (tables : List (List (Option ℕ))) where
+module _ (types : List FuncType) (imported : Imported) (fills : List Fill) (wrappers : List Wrapper) (given : List Given) (store : Store) (now : Now) (functions : List Func) (tables : List (List (Option ℕ))) where
   abbrev pub fixup_doing : List StartAction → Fixup
   fixup_doing users = record { types = types; imported = imported; fills = fills; users = users; wrappers = wrappers }
 

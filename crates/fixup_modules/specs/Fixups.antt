@@ -1,16 +1,21 @@
 -- A fixup module under construction: its types, its imports, the functions with which its segment
--- fills the table of the shims, and what its start function does. (The rules are this project's own,
+-- fills the table of the shims, what its start function does, and its wrappers. (The rules are this project's own,
 -- over the core standard's modules.)
-use Rattle.std.specs.Prelude.{ℕ, ◌≡◌, ◌≤◌, ◌^◌, ◌⊎◌, List, [], ◌∷◌, ◌++◌, length}
+use Rattle.std.specs.Prelude.{ℕ, ◌≡◌, ◌+◌, ◌<◌, ◌≤◌, ◌^◌, ◌⊎◌, List, [], ◌∷◌, ◌++◌, length, Option, Some, None, codes, slice_get}
+use Rattle.std.specs.List.{slice_set}
 use Rattle.core_types.specs.declared.types.FuncType.{FuncType}
 use Rattle.core_bytes.specs.declared.entity.EntityType.{EntityType}
 use Rattle.core_bytes.specs.declared.entity.EntityType.TheVariants as entities
 use Rattle.core_runs.specs.declared.bracket.Bracket.{Bracket}
+use Rattle.core_runs.specs.declared.bracket.Bracketed.TheVariants.{Destructor}
+use Rattle.core_runs.specs.Hooks.{bracket_of}
 use Rattle.core_runs.specs.declared.bracket.TaskHook.TheVariants.{InitializeStart, InitializeFinish}
 use Rattle.core_runs.specs.declared.start.StartStep.{StartStep}
 use Rattle.core_runs.specs.declared.start.StartStep.TheVariants.{Thunk, Hook}
 use Rattle.core_runs.specs.Expected.{hook_signature}
 use Rattle.interned_types.specs.Interning.{interned, type_index}
+use Rattle.fixup_modules.specs.declared.fills.Fill.{Fill}
+use Rattle.fixup_modules.specs.declared.fills.Fill.TheVariants as slots
 use Rattle.fixup_modules.specs.declared.actions.StartAction.{StartAction}
 use Rattle.fixup_modules.specs.declared.actions.StartAction.TheVariants as actions
 use Rattle.fixup_modules.specs.declared.instances.ImportedInstance.{ImportedInstance}
@@ -26,7 +31,7 @@ use Rattle.fixup_modules.specs.Imports.{Imported, nothing_imported, with_import,
 pub record Fixup : Type 0 where
   pub types : List FuncType
   pub imported : Imported
-  pub fills : List ℕ
+  pub fills : List Fill
   pub users : List StartAction
   pub wrappers : List Wrapper
 
@@ -52,7 +57,7 @@ abbrev pub with_shim : Fixup → List ℕ → FuncType → Fixup
 with_shim f name type = record {
   types = interned f.types type;
   imported = with_import f.imported instances.Actual name (shim_target f.types type);
-  fills = f.fills ++ import_index f.imported instances.Actual name (shim_target f.types type) ∷ [];
+  fills = f.fills ++ slots.Imported (import_index f.imported instances.Actual name (shim_target f.types type)) ∷ [];
   users = f.users;
   wrappers = f.wrappers;
 }
@@ -107,7 +112,7 @@ with_task_hook f name = record {
 -- type, where these types and imports are there
 abbrev pub wrapper_of : List FuncType → Imported → ℕ → ImportedInstance → List ℕ → FuncType → Bracket → Wrapper
 wrapper_of types imported hook instance name type bracket = record {
-  instance = instance;
+  instance = Some instance;
   name = name;
   type_index = type_index types type;
   params = length type.params;
@@ -126,6 +131,49 @@ with_wrapper f hook instance name type bracket = record {
   wrappers = f.wrappers ++ wrapper_of f.types f.imported hook instance name type bracket ∷ [];
 }
 
+-- ---- slots that wrappers fill
+
+-- the function of a slot, by its index, where the first wrapper has this index
+abbrev pub filled_by : ℕ → Fill → ℕ
+filled_by first (slots.Imported function) = function
+filled_by first (slots.Wrapped place) = first + place
+
+-- a wrapper that fills a slot is one of so many
+abbrev pub IsPlaced : ℕ → Fill → Type 0
+IsPlaced count (slots.Imported function) = Unit {0}
+IsPlaced count (slots.Wrapped place) = place < count
+
+-- the wrapper of a place fills this slot
+abbrev pub with_fill : Fixup → ℕ → ℕ → Fixup
+with_fill f slot place = record f { fills = slice_set f.fills slot (slots.Wrapped place) }
+
+-- a function that calls the hook before and after a destructor, which is imported and has this index; it is not exported
+abbrev pub destructor_wrapper : List FuncType → ℕ → ℕ → Wrapper
+destructor_wrapper types hook target = record {
+  instance = None;
+  name = codes "resource-dtor";
+  type_index = type_index types hook_signature;
+  params = 1;
+  bracket = bracket_of Destructor;
+  hook = hook;
+  target = target;
+}
+
+-- It comes after the wrappers before it, and fills the slot in place of the destructor.
+abbrev pub with_destructor : Fixup → ℕ → ℕ → ℕ → Fixup
+with_destructor f hook slot target = record {
+  types = interned f.types hook_signature;
+  imported = f.imported;
+  fills = slice_set f.fills slot (slots.Wrapped (length f.wrappers));
+  users = f.users;
+  wrappers = f.wrappers ++ destructor_wrapper f.types hook target ∷ [];
+}
+
+-- the function that is imported for a slot is wrapped, where it is one
+abbrev pub with_wrapped_slot : Fixup → ℕ → ℕ → Option Fill → Fixup
+with_wrapped_slot f hook slot (Some (slots.Imported target)) = with_destructor f hook slot target
+with_wrapped_slot f hook slot fill = f
+
 -- ---- refusals
 
 -- Why a type can't be interned.
@@ -140,7 +188,7 @@ abbrev pub FunctionCause : List FuncType → Imported → ImportedInstance → L
 FunctionCause types imported instance name type e = TypeCause types type e ⊎ ImportCause imported instance name (shim_target types type) e
 
 -- Why one can't be imported for a slot: the same, or there are too many functions for slots.
-abbrev pub SlotCause : List FuncType → Imported → List ℕ → ImportedInstance → List ℕ → FuncType → ShimFault → Type 0
+abbrev pub SlotCause : List FuncType → Imported → List Fill → ImportedInstance → List ℕ → FuncType → ShimFault → Type 0
 SlotCause types imported functions instance name type e =
     TypeCause types type e ⊎ ImportCause imported instance name (shim_target types type) e ⊎ IsFull (length functions) e
 
@@ -160,6 +208,10 @@ WrapperCause types imported wrappers instance name type e =
 -- Why a wrapper can't be added.
 abbrev pub WrapCause : Fixup → ImportedInstance → List ℕ → FuncType → ShimFault → Type 0
 WrapCause f instance name type e = WrapperCause f.types f.imported f.wrappers instance name type e
+
+-- Why a destructor can't be wrapped: its type can't be interned, or there are too many wrappers.
+abbrev pub DestructorCause : Fixup → ShimFault → Type 0
+DestructorCause f e = TypeCause f.types hook_signature e ⊎ IsFull (length f.wrappers) e
 
 -- Why the task hook can't be.
 abbrev pub HookCause : Fixup → List ℕ → ShimFault → Type 0

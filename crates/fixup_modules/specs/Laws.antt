@@ -19,6 +19,8 @@ use Rattle.core_runs.specs.Instances.{Given, FunctionAt, TableAt, Made, function
 use Rattle.core_runs.specs.Sections.{parts_of}
 use Rattle.core_runs.specs.LawsOfInstances.{Slot, Extends, ShimsMade}
 use Rattle.core_runs.specs.Starts.{Deed, Calls, deeds_done}
+use Rattle.fixup_modules.specs.declared.fills.Fill.{Fill}
+use Rattle.fixup_modules.specs.declared.fills.Fill.TheVariants as slots
 use Rattle.fixup_modules.specs.declared.instances.ImportedInstance.{ImportedInstance}
 use Rattle.fixup_modules.specs.declared.instances.ImportedInstance.TheVariants as instances
 use Rattle.fixup_modules.specs.declared.wrappers.Wrapper.{Wrapper}
@@ -26,7 +28,7 @@ use Rattle.fixup_modules.specs.Instances.{instance_name}
 use Rattle.fixup_modules.specs.Imports.{Imported, nothing_imported, entry_of, count_of, with_import, MayImport}
 use Rattle.fixup_modules.specs.declared.actions.StartAction.{StartAction}
 use Rattle.fixup_modules.specs.declared.actions.StartAction.TheVariants as actions
-use Rattle.fixup_modules.specs.Fixups.{Fixup, nothing_fixed, thunk, with_type, with_shim, with_user, with_initialize, with_task_hook, with_wrapper, shim_target}
+use Rattle.fixup_modules.specs.Fixups.{Fixup, nothing_fixed, thunk, with_type, with_shim, with_user, with_initialize, with_task_hook, with_wrapper, with_fill, with_destructor, shim_target}
 use Rattle.fixup_modules.specs.Sections.{table_name, shim_table, all_imported, fixup_sections}
 
 -- ---- how a fixup is built
@@ -45,9 +47,20 @@ pub record IsTarget (f : Fixup) (s : NamedShim) (function : ℕ) : Type 0 where
   pub imported : f.imported.entries ≡ before ++ entry_of instances.Actual s.name (entities.Function type_index) ∷ after
   pub index : function ≡ count_of kinds.Func before
 
--- Slot number i is filled with the function of shim number i, and there is no other slot.
+-- The wrapper of this place has the shim's type.
+pub record IsWrapperFor (f : Fixup) (s : NamedShim) (place : ℕ) : Type 0 where
+  pub wrapper : Wrapper
+  pub at : slice_get f.wrappers place ≡ Some wrapper
+  pub typed : slice_get f.types wrapper.type_index ≡ Some s.type
+
+-- A slot is filled with the function of its shim, or with such a wrapper.
+abbrev pub IsSlotFor : Fixup → NamedShim → Fill → Type 0
+IsSlotFor f s (slots.Imported function) = IsTarget f s function
+IsSlotFor f s (slots.Wrapped place) = IsWrapperFor f s place
+
+-- Slot number i is that of shim number i, and there is no other slot.
 abbrev pub FillsShims : Fixup → List NamedShim → Type 0
-FillsShims f shims = AllZip (IsTarget f) shims f.fills
+FillsShims f shims = AllZip (IsSlotFor f) shims f.fills
 
 -- A new fixup fills no slot; a shim that is added has the next one; and what else is called for leaves the slots.
 pub record AddedShimsAreFilled : Type 0 where
@@ -57,6 +70,8 @@ pub record AddedShimsAreFilled : Type 0 where
   pub more_users : (f : Fixup) (shims : List NamedShim) (action : StartAction) → FillsShims f shims → FillsShims (with_user f action) shims
   pub one_hook : (f : Fixup) (shims : List NamedShim) (name : List ℕ) → FillsShims f shims → FillsShims (with_task_hook f name) shims
   pub one_wrapper : (f : Fixup) (shims : List NamedShim) (hook : ℕ) (instance : ImportedInstance) (name : List ℕ) (type : FuncType) (bracket : Bracket) → FillsShims f shims → FillsShims (with_wrapper f hook instance name type bracket) shims
+  pub one_fill : (f : Fixup) (shims : List NamedShim) (slot place : ℕ) → ((s : NamedShim) → slice_get shims slot ≡ Some s → IsWrapperFor f s place) → FillsShims f shims → FillsShims (with_fill f slot place) shims
+  pub one_destructor : (f : Fixup) (shims : List NamedShim) (hook slot target : ℕ) → ((s : NamedShim) → slice_get shims slot ≡ Some s → s.type ≡ hook_signature) → FillsShims f shims → FillsShims (with_destructor f hook slot target) shims
   pub more_types : (f : Fixup) (shims : List NamedShim) (type : FuncType) → FillsShims f shims → FillsShims (with_type f type) shims
   pub more_imports : (f : Fixup) (shims : List NamedShim) (instance : ImportedInstance) (field : List ℕ) (item : EntityType) → FillsShims f shims → FillsShims (record f { imported = with_import f.imported instance field item }) shims
 
@@ -122,16 +137,21 @@ pub record FixupAfter (f : Fixup) (shims : List NamedShim) (types : List FuncTyp
   pub may_import : MayImport f.imported instances.Shim table_name (shim_table f)
   pub table : supply (entry_of instances.Shim table_name (shim_table f)) ≡ Some (TableAt (length store.tables))
 
--- The functions that are supplied as targets, by their addresses.
-abbrev pub AreTargets : Fixup → (Import → Option Given) → List NamedShim → List ℕ → Type 0
-AreTargets f supply shims addresses =
-    AllZip (λ (s : NamedShim) address. (type_index : ℕ) × (supply (entry_of instances.Actual s.name (entities.Function type_index)) ≡ Some (FunctionAt address))) shims addresses
+-- What fills a slot, by its address: the function that is supplied for the shim, or a wrapper, of which the first has
+-- this address.
+abbrev pub IsFilledAt : (Import → Option Given) → ℕ → NamedShim → Fill → ℕ → Type 0
+IsFilledAt supply first s (slots.Imported function) address = (type_index : ℕ) × (supply (entry_of instances.Actual s.name (entities.Function type_index)) ≡ Some (FunctionAt address))
+IsFilledAt supply first s (slots.Wrapped place) address = address ≡ first + place
 
--- Once it is made, shim number i acts as the function that is supplied for it, whatever is
--- instantiated later. It changes no other table.
+abbrev pub AreTargets : (Import → Option Given) → ℕ → List NamedShim → List Fill → List ℕ → Type 0
+AreTargets supply first [] [] [] = Unit {0}
+AreTargets supply first (s ∷ ss) (x ∷ xs) (a ∷ addresses) = IsFilledAt supply first s x a × AreTargets supply first ss xs addresses
+AreTargets supply first shims fills addresses = ⊥
+
+-- Once it is made, shim number i acts as what fills its slot, whatever is instantiated later. It changes no other table.
 pub record ShimsAreFilled (f : Fixup) (shims : List NamedShim) (slots : List Slot) (store : Store) (made : Made) (later : Store) (supply : Import → Option Given) (fixed : Made) : Type 0 where
   pub addresses : List ℕ
-  pub targets : AreTargets f supply shims addresses
+  pub targets : AreTargets supply (length later.functions) shims f.fills addresses
   pub more_tables : List (List (Option ℕ))
   pub later_tables : later.tables ≡ made.store.tables ++ more_tables
   pub tables : fixed.store.tables ≡ store.tables ++ map (λ a. Some a) addresses ∷ more_tables

@@ -17,6 +17,8 @@ use Rattle.core_bytes.specs.declared.section.Section.{Section}
 use Rattle.core_bytes.specs.declared.section.Section.TheVariants as sections
 use Rattle.core_runs.specs.Bodies.{table_of_shims, table_fill, wrapper, start}
 use Rattle.interned_types.specs.Interning.{interned, type_index}
+use Rattle.fixup_modules.specs.declared.fills.Fill.{Fill}
+use Rattle.fixup_modules.specs.declared.instances.ImportedInstance.{ImportedInstance}
 use Rattle.fixup_modules.specs.declared.actions.StartAction.{StartAction}
 use Rattle.fixup_modules.specs.declared.actions.StartAction.TheVariants as actions
 use Rattle.fixup_modules.specs.declared.instances.ImportedInstance.TheVariants as instances
@@ -27,7 +29,7 @@ use Rattle.fixup_modules.specs.declared.fault.ShimFault.{ShimFault}
 use Rattle.fixup_modules.specs.declared.fault.ShimFault.TheVariants as faults
 use Rattle.fixup_modules.specs.Faults.{IsBeyond}
 use Rattle.fixup_modules.specs.Imports.{Imported, with_import, import_index, of_kind, count_of, MayImport, ImportCause}
-use Rattle.fixup_modules.specs.Fixups.{Fixup, thunk, step_of, TypeCause}
+use Rattle.fixup_modules.specs.Fixups.{Fixup, thunk, step_of, filled_by, TypeCause}
 
 -- ---- the table of the shims
 
@@ -123,15 +125,25 @@ wrapper_body w = wrapper w.params w.bracket w.hook w.target
 abbrev pub hook_name : ℕ → List ℕ
 hook_name place = codes "hook" ++ decimal place
 
--- what they wrap, and the names under which they are exported, from this place on
+-- what the wrapper of a place wraps, and the name under which it is exported; one that wraps no export of an instance is not
+abbrev pub wrapped_at : ℕ → List ℕ → Option ImportedInstance → List WrapperExport
+wrapped_at place name None = []
+wrapped_at place name (Some instance) = record { instance = instance; name = name; export = hook_name place } ∷ []
+
+-- what they wrap, from this place on
 abbrev pub wrapped_from : ℕ → List Wrapper → List WrapperExport
 wrapped_from place [] = []
-wrapped_from place (w ∷ ws) = record { instance = w.instance; name = w.name; export = hook_name place } ∷ wrapped_from (place + 1) ws
+wrapped_from place (w ∷ ws) = wrapped_at place w.name w.instance ++ wrapped_from (place + 1) ws
 
--- their exports, from this index on
-abbrev pub exports_from : ℕ → List WrapperExport → List Export
-exports_from index [] = []
-exports_from index (e ∷ es) = record { name = e.export; kind = kinds.Func; index = index } ∷ exports_from (index + 1) es
+-- the export of the wrapper of a place and of an index, where it has one
+abbrev pub export_at : ℕ → ℕ → Option ImportedInstance → List Export
+export_at index place None = []
+export_at index place (Some instance) = record { name = hook_name place; kind = kinds.Func; index = index } ∷ []
+
+-- their exports, from this index and this place on
+abbrev pub exports_from : ℕ → ℕ → List Wrapper → List Export
+exports_from index place [] = []
+exports_from index place (w ∷ ws) = export_at index place w.instance ++ exports_from (index + 1) (place + 1) ws
 
 -- ---- the functions of the module
 
@@ -143,6 +155,10 @@ abbrev pub bodies_if : Option ℕ → List StartAction → List Body
 bodies_if None users = []
 bodies_if (Some type) users = acting users ∷ []
 
+-- the functions that fill the slots, by their indices
+abbrev pub filling : Fixup → List ℕ
+filling f = map (filled_by (imported_functions f)) f.fills
+
 -- the wrappers first, and then its own
 abbrev pub function_types : Fixup → List ℕ
 function_types f = map (λ (w : Wrapper). w.type_index) f.wrappers ++ types_if (own_type f)
@@ -151,7 +167,7 @@ abbrev pub bodies_of : Fixup → List Body
 bodies_of f = map wrapper_body f.wrappers ++ bodies_if (own_type f) f.users
 
 abbrev pub exports_of : Fixup → List Export
-exports_of f = exports_from (imported_functions f) (wrapped_from 0 f.wrappers)
+exports_of f = exports_from (imported_functions f) 0 f.wrappers
 
 -- ---- names
 
@@ -206,14 +222,14 @@ sections_of types entries table own fills users wrappers debug_names =
     sections.Types types
     ∷ sections.Imports entries
     ∷ (section_if sections.Functions (map (λ (w : Wrapper). w.type_index) wrappers ++ types_if own)
-    ++ (section_if sections.Exports (exports_from (count_of kinds.Func entries) (wrapped_from 0 wrappers))
+    ++ (section_if sections.Exports (exports_from (count_of kinds.Func entries) 0 wrappers)
     ++ (optional sections.Start (start_of (count_of kinds.Func entries + length wrappers) users)
     ++ (optional (λ table. sections.Elements (fill_segment table fills ∷ [])) table
     ++ (section_if sections.Code (map wrapper_body wrappers ++ bodies_if own users)
     ++ names_of debug_names entries wrappers (option_map (λ type. count_of kinds.Func entries + length wrappers) own))))))
 
 abbrev pub fixup_sections : Fixup → Bool → List Section
-fixup_sections f debug_names = sections_of (types_of f) (all_imported f).entries (table_of f) (own_type f) f.fills f.users f.wrappers debug_names
+fixup_sections f debug_names = sections_of (types_of f) (all_imported f).entries (table_of f) (own_type f) (filling f) f.users f.wrappers debug_names
 
 -- the module, the instances that are its arguments, by name, and what its exports are
 abbrev pub module_with_instances : Fixup → Bool → EncodedFixup
@@ -224,7 +240,7 @@ module_with_instances f debug_names = record {
 }
 
 -- no slot is to be filled, nothing is to be done at the start, and nothing is wrapped
-abbrev pub is_idle : List ℕ → List StartAction → List Wrapper → Bool
+abbrev pub is_idle : List Fill → List StartAction → List Wrapper → Bool
 is_idle [] [] [] = true
 is_idle [] [] (w ∷ ws) = false
 is_idle [] (a ∷ others) wrappers = false

@@ -1,16 +1,18 @@
 //! The whole fixup module.
 
 ghost use Rattle.std.specs.Prelude.{◌≡◌, ◌+◌, ◌∷◌, ◌++◌, [], ◌<◌, ◌^◌, false, length, map, IfOk, OnOk, IfErr};
+ghost use Rattle.std.specs.List.{AllByRecursion};
 ghost use Rattle.std.specs.Option.{option_map};
 ghost use Rattle.standard_kinds.specs.declared.kinds.ExportKind.TheVariants as kinds;
 ghost use Rattle.core_bytes.specs.declared.section.Section.TheVariants as sections;
 ghost use Rattle.fixup_modules.specs.Faults.{IsBeyond};
 ghost use Rattle.fixup_modules.specs.Imports.{count_of};
-ghost use Rattle.fixup_modules.specs.Fixups.{Fixup};
+ghost use Rattle.fixup_modules.specs.Fixups.{Fixup, IsPlaced};
 ghost use Rattle.fixup_modules.specs.Sections.{all_imported, table_of, fill_segment, is_hook_call, function_called, needs_own, first_call, is_idle, own_type, own_index, types_of, start_of, types_if, bodies_if, wrapper_body, exports_from, wrapped_from, names_of, optional, section_if, sections_of, fixup_sections, module_with_instances, encoded_fixup, MayEncode, TableCause, OwnTypeCause, EncodeCause};
 
 use crate::actions::StartAction;
 use crate::fault::ShimFault;
+use crate::fills::{Fill, filled_by};
 use crate::fixup::{FixupModule, thunk_type};
 use crate::imports::ImportTable;
 use crate::instances::ImportedInstance;
@@ -34,7 +36,7 @@ pub struct EncodedFixup {
 }
 
 /// Imports the table of the shims, where there is a slot to fill, and returns its index.
-fn import_table(imports: &mut ImportTable, fills: &[u32]) -> Result<Option<u32>, ShimFault>
+fn import_table(imports: &mut ImportTable, fills: &[Fill]) -> Result<Option<u32>, ShimFault>
     requires { length fills.now < 2 ^ 32 }
     ensures imports { let f : Fixup = record
         { types = []; imported = imports.old; fills = fills.now; users = []; wrappers = [] } in OnOk result
@@ -105,7 +107,7 @@ fn first_call(users: &[StartAction]) -> Option<u32>
 
 /// Whether there is nothing to do: no slot is to be filled, nothing is done at the start, and nothing
 /// is wrapped.
-fn is_idle(fills: &[u32], users: &[StartAction], wrappers: &[Wrapper]) -> bool
+fn is_idle(fills: &[Fill], users: &[StartAction], wrappers: &[Wrapper]) -> bool
     ensures { result ≡ is_idle fills.now users.now wrappers.now }
 {
     if !fills.is_empty() {
@@ -207,10 +209,9 @@ fn put_exports(
     requires { first + length wrappers.now < 2 ^ 32 }
     ensures { OnOk result (out.new
         ≡ out.old ++ section_if sections.Exports
-        (exports_from first (wrapped_from 0 wrappers.now))) }
+        (exports_from first 0 wrappers.now)) }
 {
-    let exports = wrapped(alloc, wrappers)?;
-    let section = export_section(alloc, first, exports.as_slice())?;
+    let section = export_section(alloc, first, wrappers)?;
     if section.is_empty() {
         return Ok(());
     }
@@ -300,15 +301,17 @@ fn fixup_module(
     table: Option<u32>,
     own: Option<u32>,
     own_index: u32,
-    fills: &[u32],
+    fills: &[Fill],
     users: &[StartAction],
     wrappers: &[Wrapper],
     debug_names: bool,
 ) -> Result<Module, AllocError>
-    requires { own_index ≡ count_of kinds.Func imports.now.entries + length wrappers.now }
+    requires index { own_index ≡ count_of kinds.Func imports.now.entries + length wrappers.now }
+    requires placed { AllByRecursion (IsPlaced (length wrappers.now)) fills.now }
     ensures { IfOk result (λ made. made
-        ≡ sections_of types.now imports.now.entries table own fills.now users.now wrappers.now
-        debug_names) }
+        ≡ sections_of types.now imports.now.entries table own
+        (map (filled_by (count_of kinds.Func imports.now.entries)) fills.now) users.now
+        wrappers.now debug_names) }
 {
     let mut module = Module::new(alloc);
     module.section(Section::Types(types.section(alloc)?))?;
@@ -316,7 +319,8 @@ fn fixup_module(
     put_functions(&mut module, alloc, wrappers, own)?;
     put_exports(&mut module, alloc, imports.functions(), wrappers)?;
     put_start(&mut module, start_function(own_index, users))?;
-    put_segment(&mut module, alloc, table, fills)?;
+    let functions = filled_by(alloc, imports.functions(), wrappers.len(), fills)?;
+    put_segment(&mut module, alloc, table, functions.as_slice())?;
     put_code(&mut module, alloc, wrappers, own, users)?;
     let own_function = own_function(own_index, own);
     put_names(
@@ -335,13 +339,14 @@ fn encode_tasks(
     alloc: Global,
     mut types: CoreTypes,
     mut imports: ImportTable,
-    fills: &[u32],
+    fills: &[Fill],
     users: &[StartAction],
     wrappers: &[Wrapper],
     debug_names: bool,
 ) -> Result<EncodedFixup, ShimFault>
     requires fills { length fills.now < 2 ^ 32 }
     requires wrappers { length wrappers.now < 2 ^ 32 }
+    requires placed { AllByRecursion (IsPlaced (length wrappers.now)) fills.now }
     ensures ok { let f : Fixup = record {
       types = types;
       imported = imports;

@@ -1,27 +1,30 @@
 //! A fixup module that is built call by call.
 
 ghost use Rattle.std.specs.Prelude.{◌≡◌, ◌+◌, ◌<◌, ◌≤◌, ◌^◌, ◌⊎◌, [], ◌∷◌, ◌++◌, length, Some, slice_get, OnOk, OnErr, IfOk, IfErr};
+ghost use Rattle.std.specs.List.{slice_set};
 ghost use Rattle.core_bytes.specs.declared.entity.EntityType.TheVariants as entities;
 ghost use Rattle.interned_types.specs.Interning.{type_index, interned};
 ghost use Rattle.core_runs.specs.declared.bracket.TaskHook.TheVariants.{InitializeStart, InitializeFinish};
 ghost use Rattle.fixup_modules.specs.declared.fault.ShimFault.TheVariants as faults;
+ghost use Rattle.fixup_modules.specs.declared.fills.Fill.TheVariants as slots;
 ghost use Rattle.fixup_modules.specs.declared.instances.ImportedInstance.TheVariants as instances;
 ghost use Rattle.fixup_modules.specs.Imports.{with_import, import_index, MayImport, HasRoom, ImportCause};
 ghost use Rattle.std.specs.Vec.{vec_len, vec_capacity};
 ghost use Rattle.core_runs.specs.Expected.{hook_signature};
 ghost use Rattle.fixup_modules.specs.declared.actions.StartAction.TheVariants as actions;
 ghost use Rattle.fixup_modules.specs.Faults.{IsFull, IsBeyond};
-ghost use Rattle.fixup_modules.specs.Fixups.{Fixup, nothing_fixed, thunk, thunk_item, hook_item, hooked, wrapper_of, with_type, with_shim, with_user, with_initialize, with_task_hook, with_wrapper, shim_target, TypeCause, FunctionCause, SlotCause, ShimCause, CallCause, HookCause, WrapperCause, WrapCause};
+ghost use Rattle.fixup_modules.specs.Fixups.{Fixup, nothing_fixed, thunk, thunk_item, hook_item, hooked, wrapper_of, with_type, with_shim, with_user, with_initialize, with_task_hook, with_wrapper, with_fill, destructor_wrapper, with_wrapped_slot, shim_target, IsPlaced, TypeCause, FunctionCause, SlotCause, ShimCause, CallCause, HookCause, WrapperCause, WrapCause, DestructorCause};
 
 use crate::actions::StartAction;
 use crate::fault::ShimFault;
+use crate::fills::Fill;
 use crate::imports::ImportTable;
 use crate::instances::ImportedInstance;
 use crate::wrappers::Wrapper;
 use byte_encoding::{count_of, next_count};
 use comp_lists::{Seq, Text, TryClone};
 use core_bytes::EntityType;
-use core_runs::{Bracket, TaskHook};
+use core_runs::{Bracket, Bracketed, TaskHook};
 use core_types::{FuncType, GlobalType, ValType};
 use interned_types::CoreTypes;
 use std::alloc::{AllocError, Global};
@@ -36,8 +39,8 @@ pub struct FixupModule {
     pub(crate) alloc: Global,
     pub(crate) types: CoreTypes,
     pub(crate) imports: ImportTable,
-    /// The functions for the slots of the table of shims, in their order.
-    pub(crate) fills: Vec<u32>,
+    /// What fills the slots of the table of shims, in their order.
+    pub(crate) fills: Vec<Fill>,
     /// What the start function does, in order.
     pub(crate) users: Vec<StartAction>,
     /// The functions that call the task hook round others, in order.
@@ -46,13 +49,16 @@ pub struct FixupModule {
 
 impl Model for FixupModule {
     ghost use Rattle.std.specs.Prelude.{◌<◌, ◌^◌, length};
-    ghost use Rattle.fixup_modules.specs.Fixups.{Fixup};
+    ghost use Rattle.std.specs.List.{AllByRecursion};
+    ghost use Rattle.fixup_modules.specs.Fixups.{Fixup, IsPlaced};
 
     ghost Value = { Fixup };
 
     ghost view = { λ f. record { types = f.types; imported = f.imports; fills = f.fills.items; users = f.users.items; wrappers = f.wrappers.items } };
 
-    ghost invariant = { λ f. (length f.fills.items < 2 ^ 32) × (length f.wrappers.items < 2 ^ 32) };
+    ghost invariant = { λ f. (length f.fills.items < 2 ^ 32)
+        × (length f.wrappers.items < 2 ^ 32)
+        × AllByRecursion (IsPlaced (length f.wrappers.items)) f.fills.items };
 }
 
 /// The type of functions without parameters and results.
@@ -138,11 +144,11 @@ fn import_function(
     }
 }
 
-/// Imports a function of a type, and appends it to the functions for slots. After a refusal all is as it was.
+/// Imports a function of a type, and lets it fill the next slot. After a refusal all is as it was.
 fn append_function(
     types: &mut CoreTypes,
     imports: &mut ImportTable,
-    functions: &mut Vec<u32>,
+    functions: &mut Vec<Fill>,
     instance: &ImportedInstance,
     name: &str,
     ty: FuncType,
@@ -153,7 +159,8 @@ fn append_function(
         (imports.new ≡ with_import imports.old instance.now name.now (shim_target types.old ty)) }
     ensures functions { OnOk result (functions.new.items
         ≡ functions.old.items
-        ++ import_index imports.old instance.now name.now (shim_target types.old ty) ∷ []) }
+        ++ slots.Imported
+        (import_index imports.old instance.now name.now (shim_target types.old ty)) ∷ []) }
     ensures room { OnOk result (length functions.new.items < 2 ^ 32) }
     ensures refused { OnOk result
         (MayImport imports.old instance.now name.now (shim_target types.old ty)) }
@@ -166,7 +173,7 @@ fn append_function(
     next_count(functions.len() as u32)?;
     functions.reserve(1)?;
     let function = import_function(types, imports, instance, name, ty)?;
-    match functions.push(function) {
+    match functions.push(Fill::Imported(function)) {
         Ok(()) => Ok(()),
         Err(_) => unreachable!(),
     }
@@ -334,7 +341,7 @@ fn append_wrapper(
     wrappers.reserve(1)?;
     let (type_index, target) = import_typed(types, imports, instance, name, ty)?;
     let wrapper = Wrapper {
-        instance: own_instance,
+        instance: Some(own_instance),
         name: own_name,
         type_index,
         params,
@@ -346,6 +353,53 @@ fn append_wrapper(
         Ok(()) => Ok(()),
         Err(_) => unreachable!(),
     }
+}
+
+/// Wraps a destructor, which is imported, with the hook, by the indices of both, and lets a slot be filled with
+/// the wrapper. After a refusal all is as it was.
+fn append_destructor(
+    alloc: Global,
+    types: &mut CoreTypes,
+    wrappers: &mut Vec<Wrapper>,
+    hook: u32,
+    target: u32,
+) -> Result<(), ShimFault>
+    requires { length wrappers.old.items < 2 ^ 32 }
+    ensures types { OnOk result (types.new ≡ interned types.old hook_signature) }
+    ensures wrappers { OnOk result (wrappers.new.items
+        ≡ wrappers.old.items ++ destructor_wrapper types.old hook target ∷ []) }
+    ensures room { OnOk result (length wrappers.new.items < 2 ^ 32) }
+    ensures err { OnErr result ((types.new ≡ types.old)
+        × (wrappers.new.items ≡ wrappers.old.items)) }
+    ensures cause { IfErr result (λ e. TypeCause types.old hook_signature e
+        ⊎ IsFull (length wrappers.old.items) e) }
+{
+    next_count(wrappers.len() as u32)?;
+    let name = Text::from_str(alloc, "resource-dtor")?;
+    let ty = hook_type(alloc)?;
+    wrappers.reserve(1)?;
+    let type_index = types.intern(ty)?;
+    let wrapper = Wrapper {
+        instance: None,
+        name,
+        type_index,
+        params: 1,
+        bracket: Bracketed::Destructor.bracket(),
+        hook,
+        target,
+    };
+    match wrappers.push(wrapper) {
+        Ok(()) => Ok(()),
+        Err(_) => unreachable!(),
+    }
+}
+
+/// Lets the wrapper of a place fill a slot.
+fn put_fill(fills: &mut Vec<Fill>, slot: u32, place: u32)
+    requires { slot < length fills.old.items }
+    ensures { fills.new.items ≡ slice_set fills.old.items slot (slots.Wrapped place) }
+{
+    fills[slot as usize] = Fill::Wrapped(place);
 }
 
 impl FixupModule {
@@ -617,6 +671,47 @@ impl FixupModule {
             ty,
             bracket,
         )?;
+        Ok(())
+    }
+
+    /// Lets a slot be filled with the wrapper of a place, instead of the function that was imported for it.
+    ///
+    /// Core standard, structure: element segments.
+    pub fn fill_with_wrapper(&mut self, slot: u32, place: u32)
+        requires slot { slot < length self.old.fills }
+        requires place { place < length self.old.wrappers }
+        ensures { self.new ≡ with_fill self.old slot place }
+    {
+        put_fill(&mut self.fills, slot, place);
+    }
+
+    /// Wraps what was imported for a slot, a destructor: a function of one `i32` without results. The new
+    /// function calls the hook before and after it, fills the slot instead, and is not exported. So it
+    /// comes after all of [`FixupModule::wrap`]. A slot that a wrapper fills is left as it is.
+    ///
+    /// It fails as [`FixupModule::type_intern`] does, and with [`ShimFault::TooMany`] where there would be
+    /// more than 2^32 - 1 wrappers.
+    ///
+    /// Component model, explainer: the destructor of a resource type.
+    pub fn wrap_destructor(&mut self, hook: u32, slot: u32) -> Result<(), ShimFault>
+        requires { slot < length self.old.fills }
+        ensures ok { OnOk result
+            (self.new ≡ with_wrapped_slot self.old hook slot (slice_get self.old.fills slot)) }
+        ensures err { OnErr result (self.new ≡ self.old) }
+        ensures cause { IfErr result (DestructorCause self.old) }
+    {
+        let Fill::Imported(target) = self.fills[slot as usize] else {
+            return Ok(());
+        };
+        let place = self.wrappers.len() as u32;
+        append_destructor(
+            self.alloc,
+            &mut self.types,
+            &mut self.wrappers,
+            hook,
+            target,
+        )?;
+        put_fill(&mut self.fills, slot, place);
         Ok(())
     }
 }

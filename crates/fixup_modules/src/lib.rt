@@ -13,7 +13,7 @@
 //! which shims forward through globals.
 //!
 //! In reading order: `instances` (whence is imported), `actions` (what is done at the start), `fault`, `import_name`, `counts`, `tables`
-//! and `imports` (what is imported), `wrappers` (functions that call the task hook round others), `fixup` (the calls), `sections` (the parts of the module),
+//! and `imports` (what is imported), `fills` (what fills the slots), `wrappers` (functions that call the task hook round others), `fixup` (the calls), `sections` (the parts of the module),
 //! `encoding` (the whole), `laws`.
 #![tactic(auto)]
 
@@ -21,6 +21,7 @@ mod actions;
 mod counts;
 mod encoding;
 mod fault;
+mod fills;
 mod fixup;
 mod import_name;
 mod imports;
@@ -33,6 +34,7 @@ mod wrappers;
 pub use actions::StartAction;
 pub use encoding::EncodedFixup;
 pub use fault::ShimFault;
+pub use fills::Fill;
 pub use fixup::FixupModule;
 pub use instances::ImportedInstance;
 pub use laws::{

@@ -1,7 +1,7 @@
 //! Functions of a fixup module that call the task hook round others.
 
 ghost use Rattle.std.specs.Prelude.{◌≡◌, ◌++◌, ◌+◌, ◌<◌, ◌^◌, length, map, IfOk, OnOk};
-ghost use Rattle.fixup_modules.specs.Sections.{hook_name, exports_from, wrapped_from, wrapper_body, wrapper_names};
+ghost use Rattle.fixup_modules.specs.Sections.{hook_name, export_at, exports_from, wrapped_at, wrapped_from, wrapper_body, wrapper_names};
 
 use crate::instances::ImportedInstance;
 use comp_lists::{Seq, Text, TryClone};
@@ -13,8 +13,8 @@ use std::alloc::{AllocError, Global};
 /// A function of the module that calls the task hook before or after another one, as its bracket says.
 #[derive(Drop)]
 pub struct Wrapper {
-    /// The instance that exports the other function.
-    pub instance: ImportedInstance,
+    /// The instance that exports the other function; none where it is what a slot would be filled with.
+    pub instance: Option<ImportedInstance>,
     /// Its name there.
     pub name: Text,
     /// The index of the type of both.
@@ -44,54 +44,75 @@ fn hook_name(alloc: Global, place: u32) -> Result<Text, AllocError>
     Ok(Text::from_string(name))
 }
 
-/// What a wrapper of a place wraps, and its export.
-fn wrapper_export(alloc: Global, place: u32, wrapper: &Wrapper) -> Result<WrapperExport, AllocError>
-    ensures { IfOk result (λ made. made
-        ≡ record {
-          instance = wrapper.now.instance;
-          name = wrapper.now.name;
-          export = hook_name place;
-        }) }
+/// What the wrapper of a place wraps, and its export, where it wraps an export of an instance.
+fn put_wrapped(
+    alloc: Global,
+    all: &mut Seq<WrapperExport>,
+    place: u32,
+    name: &Text,
+    instance: &Option<ImportedInstance>,
+) -> Result<(), AllocError>
+    ensures { OnOk result (all.new ≡ all.old ++ wrapped_at place name.now instance.now) }
 {
-    let instance = wrapper.instance.try_clone(alloc)?;
-    let name = wrapper.name.clone(alloc)?;
+    let Some(instance) = instance else {
+        return Ok(());
+    };
+    let instance = instance.try_clone(alloc)?;
+    let name = name.clone(alloc)?;
     let export = hook_name(alloc, place)?;
-    Ok(WrapperExport {
+    all.push(WrapperExport {
         instance,
         name,
         export,
-    })
+    })?;
+    Ok(())
 }
 
 /// What the wrappers wrap, in order.
 pub(crate) fn wrapped(alloc: Global, wrappers: &[Wrapper]) -> Result<Seq<WrapperExport>, AllocError>
     requires { length wrappers.now < 2 ^ 32 }
-    ensures ok { IfOk result (λ all. all ≡ wrapped_from 0 wrappers.now) }
-    ensures as_many { IfOk result (λ all. length all ≡ length wrappers.now) }
+    ensures { IfOk result (λ all. all ≡ wrapped_from 0 wrappers.now) }
 {
     let mut all = Seq::new(alloc);
     let mut place = 0;
     for wrapper in wrappers {
-        all.push(wrapper_export(alloc, place, wrapper)?)?;
+        put_wrapped(alloc, &mut all, place, &wrapper.name, &wrapper.instance)?;
         place += 1;
     }
     Ok(all)
+}
+
+/// The export of the wrapper of a place and of an index, where it has one.
+fn put_export(
+    alloc: Global,
+    section: &mut ExportSection,
+    index: u32,
+    place: u32,
+    instance: &Option<ImportedInstance>,
+) -> Result<(), AllocError>
+    ensures { OnOk result (section.new ≡ section.old ++ export_at index place instance.now) }
+{
+    if instance.is_none() {
+        return Ok(());
+    }
+    let name = hook_name(alloc, place)?;
+    section.export(name.as_str(), ExportKind::Func, index)
 }
 
 /// Their exports, of which the first has this index.
 pub(crate) fn export_section(
     alloc: Global,
     first: u32,
-    exports: &[WrapperExport],
+    wrappers: &[Wrapper],
 ) -> Result<ExportSection, AllocError>
-    requires { first + length exports.now < 2 ^ 32 }
-    ensures { IfOk result (λ section. section ≡ exports_from first exports.now) }
+    requires { first + length wrappers.now < 2 ^ 32 }
+    ensures { IfOk result (λ section. section ≡ exports_from first 0 wrappers.now) }
 {
     let mut section = ExportSection::new(alloc);
-    let mut index = first;
-    for export in exports {
-        section.export(export.export.as_str(), ExportKind::Func, index)?;
-        index += 1;
+    let mut place = 0;
+    for wrapper in wrappers {
+        put_export(alloc, &mut section, first + place, place, &wrapper.instance)?;
+        place += 1;
     }
     Ok(section)
 }

@@ -157,7 +157,6 @@ is_world = record {
   adapters = tt;
   adapters_apart = none_apart;
   keys_apart = one_key_apart key;
-  unhooked = refl;
 }
 
 -- it exports one interface

@@ -123,7 +123,6 @@ is_world = record {
   adapters = tt;
   adapters_apart = none_apart;
   keys_apart = no_keys_apart;
-  unhooked = refl;
 }
 
 -- ---- a list for it, where main is given these two functions

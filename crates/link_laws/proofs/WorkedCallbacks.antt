@@ -151,7 +151,6 @@ is_world = record {
   adapters = tt;
   adapters_apart = none_apart;
   keys_apart = both_keys_apart;
-  unhooked = refl;
 }
 
 -- what the link table says of each

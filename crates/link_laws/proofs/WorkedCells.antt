@@ -125,7 +125,6 @@ is_world = record {
   );
   adapters_apart = one_apart a;
   keys_apart = no_keys_apart;
-  unhooked = refl;
 }
 
 -- both bases are of 32 bits

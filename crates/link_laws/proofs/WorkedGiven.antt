@@ -145,7 +145,6 @@ is_world = record {
   );
   adapters_apart = one_apart a;
   keys_apart = no_keys_apart;
-  unhooked = refl;
 }
 
 -- ---- a list for it

@@ -147,7 +147,6 @@ is_world = record {
   adapters = tt;
   adapters_apart = none_apart;
   keys_apart = no_keys_apart;
-  unhooked = refl;
 }
 
 -- ---- a list for it, where the first and the second drop are of the resources that the instance exports under these names

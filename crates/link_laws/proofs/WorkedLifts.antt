@@ -148,7 +148,6 @@ is_world = record {
   adapters = tt;
   adapters_apart = none_apart;
   keys_apart = one_key_apart (keys.Name g);
-  unhooked = refl;
 }
 
 -- the options that the link table names

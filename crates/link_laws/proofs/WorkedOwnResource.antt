@@ -158,7 +158,6 @@ is_world = record {
   adapters = tt;
   adapters_apart = none_apart;
   keys_apart = one_key_apart key;
-  unhooked = refl;
 }
 
 has_tables : HasTables world

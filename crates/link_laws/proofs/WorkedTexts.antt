@@ -137,7 +137,6 @@ is_world = record {
   adapters = tt;
   adapters_apart = none_apart;
   keys_apart = no_keys_apart;
-  unhooked = refl;
 }
 
 -- the options that the link table names

@@ -145,7 +145,6 @@ is_world = record {
   adapters = tt;
   adapters_apart = none_apart;
   keys_apart = one_key_apart (keys.Name g);
-  unhooked = refl;
 }
 
 -- ---- a list for it

@@ -149,7 +149,6 @@ is_world = record {
   );
   adapters_apart = one_apart a;
   keys_apart = two_keys_apart;
-  unhooked = refl;
 }
 
 -- ---- a list for it

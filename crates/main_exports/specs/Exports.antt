@@ -89,6 +89,7 @@ pub record IsOwnExport (e : ModuleExports) (name : List ℕ) (x : InstanceExport
   pub instance : x.instance ≡ e.user.instance
   pub of : module_name x.of ≡ module_name e.user.which
   pub named : x.name.now ≡ name
+  pub itself : x.alias.now ≡ name
 
 -- the same, if there is a name
 abbrev pub IsOwnExportIf : ModuleExports → Option (List ℕ) → Option InstanceExport → Type 0

@@ -6,6 +6,7 @@
 
 ghost use Rattle.std.specs.Prelude.{◌≡◌, length, map, Contains, IfErr, OnOk, Some};
 ghost use Rattle.std.specs.List.{AllByRecursion, flat_map};
+ghost use Rattle.std.specs.Option.{option_map};
 ghost use Rattle.comp_imports.specs.Names.{naming_of};
 ghost use Rattle.comp_links.specs.Lists.{keys_of_adapter, required_functions};
 ghost use Rattle.comp_links.specs.Targets.{Main};
@@ -15,7 +16,7 @@ ghost use Rattle.comp_worlds.specs.Encodable.{IsEncodable};
 ghost use Rattle.comp_worlds.specs.ExportOrder.{AreExportsInOrder};
 ghost use Rattle.comp_worlds.specs.Lookups.{module_name};
 ghost use Rattle.core_options.specs.Causes.{IsCause, IsEncodedExport};
-ghost use Rattle.core_options.specs.MainOptions.{AreUserInstances, HasLiftOptions, user_of};
+ghost use Rattle.core_options.specs.MainOptions.{AreUserInstances, HasLiftOptions, export_ref_of, user_of};
 ghost use Rattle.root_imports.specs.Keeping.{RootMoved};
 ghost use Rattle.root_imports.specs.RootScopes.{AreTablesRight, ArePassed};
 ghost use Rattle.main_exports.specs.Exports.{AreExported, AreExportsAtHand, AreExportsReady, AreNextKeys, IsNextAdapter, IsUserInstance, key_for};
@@ -25,9 +26,25 @@ use crate::tables::ExportTables;
 use comp_imports::ImportNames;
 use comp_lists::Text;
 use comp_worlds::{ComponentWorld, CustomModule, WorldAdapter};
-use core_options::{OptionSources, StateFault, UserInstances, export_realloc_of};
+use core_options::{
+    HookedExports, InstanceExport, OptionSources, StateFault, UserInstances, export_realloc_of,
+    hooked_export,
+};
 use root_imports::RootScope;
 use wit_data::WorldKey;
+
+/// What is called for an export, if one is given.
+fn called_if<'a>(
+    hooked: Option<&'a HookedExports>,
+    export: Option<InstanceExport<'a>>,
+) -> Option<InstanceExport<'a>>
+    ensures { option_map export_ref_of result ≡ option_map export_ref_of export.entry }
+{
+    match export {
+        Some(export) => Some(hooked_export(hooked, export)),
+        None => None,
+    }
+}
 
 /// Lifts and exports what is required of a user module, in order: the next keys of the world.
 /// Functions are lifted from the module's own instance, with its realloc, its string encodings, its
@@ -54,19 +71,14 @@ fn export_module(
 {
     let world = root.world;
     let tables = ExportTables::of(root.items.allocator(), &user.found.exports.exports)?;
+    let realloc = export_realloc_of(world, user.which, user.found, instances.main, user.instance);
     let exports = ModuleExports {
         user,
         tables,
         hooked: instances.hooked.as_ref(),
         sources: OptionSources {
             memory: instances.memory,
-            realloc: export_realloc_of(
-                world,
-                user.which,
-                user.found,
-                instances.main,
-                user.instance,
-            ),
+            realloc: called_if(instances.hooked.as_ref(), realloc),
         },
         names: *names,
     };

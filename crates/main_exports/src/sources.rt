@@ -44,6 +44,8 @@ impl ModuleExports<'_> {
             instance: self.user.instance,
             of: self.user.which,
             name: name.as_str(),
+            alias: name.as_str(),
+            debug: name.as_str(),
         }
     }
 

@@ -40,9 +40,7 @@ fn alias_wrappers(
     ensures cause { IfErr result IsRefusal }
 {
     for wrapper in wrappers {
-        let _alias = root
-            .items
-            .core_function(instance, wrapper.export.as_str())?;
+        let _alias = root.items.core_function(instance, wrapper.export.as_str())?;
     }
     Ok(())
 }

@@ -107,7 +107,7 @@ pub(crate) fn message_behind(
     ensures offered { OnOk result (HasShimOptions root.old.world.now shim.now) }
     ensures cause { IfErr result (IsFillCause root.old) }
 {
-    let calls = options_of_calls(root, sources, which);
+    let calls = options_of_calls(root, sources, which)?;
     let function = MemoryFunction::ErrorMessage { encoding };
     let index = function_behind(root, &calls, shim, function)?;
     Ok(index)

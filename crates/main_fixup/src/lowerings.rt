@@ -139,7 +139,7 @@ pub(crate) fn function_behind(
             encoding,
         } => {
             let index = imported_function(root, sources, interface, &function.name)?;
-            let options = options_of_calls(root, sources, realloc);
+            let options = options_of_calls(root, sources, realloc)?;
             let lowered = lower_function(root, &options, shim, *encoding, index)?;
             Ok(lowered)
         }
@@ -150,7 +150,7 @@ pub(crate) fn function_behind(
             encoding,
             ..
         } => {
-            let given = options_of_calls(root, sources, for_module);
+            let given = options_of_calls(root, sources, for_module)?;
             let returned = return_behind(root, &given, shim, *interface, *result, *encoding)?;
             Ok(returned)
         }

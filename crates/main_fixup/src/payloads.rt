@@ -80,7 +80,7 @@ pub(crate) fn payload_behind(
     let alloc = root.items.allocator();
     let found = validated_module(root.world, which);
     let encoding = payload_encoding(alloc, found, info)?;
-    let given = options_of_payload(root, sources, which, info.imported);
+    let given = options_of_payload(root, sources, which, info.imported)?;
     let index = access_behind(root, &given, shim, info, kind, encoding)?;
     Ok(index)
 }

@@ -260,7 +260,6 @@ is_world = record {
   adapters = tt;
   adapters_apart = tt;
   keys_apart = tt;
-  unhooked = refl;
 }
 
 is_encodable : IsEncodable mixed_world

@@ -1,5 +1,5 @@
 -- When a world is refused: something of it is reported exactly where a cause holds.
-use Rattle.std.proofs.Common.{◌≡◌, ◌≢◌, ◌⊎◌, inl, inr, ℕ, Bool, true, false, true≢false, List, [], ◌∷◌, ◌++◌, map, Option, Some, None, if◌then◌else◌, Ok, Err, refl, sym, ap, ap₂, subst, ◌∙◌}
+use Rattle.std.proofs.Common.{◌≡◌, ◌≢◌, ◌⊎◌, inl, inr, ℕ, Bool, true, false, true≢false, List, [], ◌∷◌, ◌++◌, map, Option, Some, None, Ok, Err, refl, sym, ap, ap₂, subst, ◌∙◌}
 use Rattle.std.specs.Prelude.{Contains, length, codes}
 use Rattle.std.specs.List.{AllByRecursion, flat_map}
 use Rattle.std.specs.Map.{keys_of}
@@ -24,15 +24,13 @@ use Rattle.record_faults.specs.declared.fault.Failure.{Failure}
 use Rattle.record_faults.specs.declared.fault.Failure.TheVariants as failures
 use Rattle.record_faults.specs.declared.fault.Refusal.{Refusal}
 use Rattle.record_faults.specs.declared.fault.Refusal.TheVariants as refusals
-use Rattle.supported_worlds.specs.LeftOut.{items_of, unless, import_item_left_out, export_item_left_out, twice_left_out, names_left_out, order_left_out, hooks_left_out, after_resources, resources_left_out, export_left_out, group_left_out, all_required, required_of, own_group_left_out, own_left_out, world_left_out, roles_left_out, module_left_out, adapter_left_out, modules_left_out, rest_left_out, named_left_out, left_out, unless_left_out, encoded}
+use Rattle.supported_worlds.specs.LeftOut.{items_of, unless, import_item_left_out, export_item_left_out, twice_left_out, names_left_out, order_left_out, resources_left_out, export_left_out, group_left_out, all_required, required_of, own_group_left_out, own_left_out, world_left_out, roles_left_out, module_left_out, adapter_left_out, modules_left_out, rest_left_out, named_left_out, left_out, unless_left_out, encoded}
 use Rattle.supported_worlds.specs.Modules.{UserModule, main_of, module_of, user_modules}
 use Rattle.supported_worlds.specs.Naming.{are_exports_named, AreExportsNamed}
 use Rattle.supported_worlds.specs.Placed.{places_of, is_world_placed, imported_numbers, are_in_place}
 use Rattle.supported_worlds.specs.PlaceTables.{ArePlaces}
 use Rattle.supported_worlds.specs.declared.places.Places.{Places}
-use Rattle.std.proofs.lemmas.Option.{same_Some}
-use Rattle.comp_worlds.specs.Hooking.{are_hooked}
-use Rattle.supported_worlds.specs.Causes.{role_left_out, own_role_out, IsLeftOut, own_role, imported, exported, twice, names, order, resources, hooks, import_role, export_role}
+use Rattle.supported_worlds.specs.Causes.{role_left_out, own_role_out, IsLeftOut, own_role, imported, exported, twice, names, order, resources, import_role, export_role}
 use Rattle.supported_worlds.proofs.ExportNames.{exports_named, names_pass}
 use Rattle.comp_roles.proofs.Firsts.{neither, one_of, none_picked, one_picked}
 use Rattle.supported_worlds.proofs.Lists.{nothing, at_front, after, in_flat_map}
@@ -115,7 +113,6 @@ pub record IsEncoded (p : WorldParts) : Type 0 where
   pub resources : ImportsResources (whole_of p)
   pub main : IsModuleEncoded p (main_of p)
   pub adapters : AllByRecursion (IsAdapterEncoded p) p.adapters
-  pub unhooked : are_hooked p.main p.adapters ≡ false
 
 -- what is left out of a module of a world, and of an adapter
 abbrev module_out : WorldParts → UserModule → Option (List ℕ)
@@ -137,16 +134,6 @@ module_encoded p m h =
       export_roles = none_picked (λ e. export_left_out p.resolve.types e.1) m.info.exports.exports r.1;
     }
 
--- where the hook is not left out, it is called round nothing but main's initialization
-not_hooked : (b : Bool) → (if b then Some (codes "task-hook") else None) ≡ None → b ≡ false
-not_hooked true h = nothing (codes "task-hook") h
-not_hooked false h = refl
-
--- and where it is, it is called round more
-hooked : (b : Bool) (what : List ℕ) → (if b then Some (codes "task-hook") else None) ≡ Some what → (b ≡ true) × (codes "task-hook" ≡ what)
-hooked true what h = (refl, same_Some (codes "task-hook") what h)
-hooked false what h = nothing what (sym h)
-
 adapter_encoded : (p : WorldParts) (a : List ℕ × WorldAdapter) → adapter_out p a ≡ None → IsAdapterEncoded p a
 adapter_encoded p a h = record { roles = module_encoded p (module_of a) h }
 
@@ -161,9 +148,8 @@ all_encoded p h =
     let t = neither (twice_left_out (all_required p) world) (named_left_out p world) a.1 in
     let n = neither (names_left_out p.resolve world) (rest_left_out p world) t.1 in
     let o = neither (order_left_out p.resolve world) _ n.1 in
-    let r = neither (resources_left_out p.resolve.types world.imports) (after_resources p world) o.1 in
-    let m = neither (modules_left_out p world places root) (hooks_left_out p) r.1 in
-    let b = neither (module_out p (main_of p)) (first_some (adapter_out p) p.adapters) m.0 in
+    let r = neither (resources_left_out p.resolve.types world.imports) (modules_left_out p world places root) o.1 in
+    let b = neither (module_out p (main_of p)) (first_some (adapter_out p) p.adapters) r.1 in
     record {
       imports = none_picked import_item_left_out world.imports w.0;
       exports = none_picked export_item_left_out world.exports w.1;
@@ -173,7 +159,6 @@ all_encoded p h =
       resources = imports_resources (whole_of p) (passes (are_in_place p.resolve.types 0 (imported_numbers world.imports)) (codes "type") r.0);
       main = module_encoded p (main_of p) b.0;
       adapters = AllByRecursion-weaker (adapter_encoded p) p.adapters (none_picked (adapter_out p) p.adapters b.1);
-      unhooked = not_hooked (are_hooked p.main p.adapters) m.1;
     }
 
 -- so it is of each user module
@@ -197,7 +182,6 @@ by_cases p h f (twice what e) = nothing what (sym e ∙ h.once)
 by_cases p h f (names lack) = lack h.named
 by_cases p h f (order what e) = nothing what (sym e ∙ ap (λ b. unless b (codes "interface")) h.order)
 by_cases p h f (resources lack) = lack h.resources
-by_cases p h f (hooks is) = true≢false (sym is ∙ h.unhooked)
 by_cases p h f (import_role m import what there c e) =
     let encoded = each_encoded p h m there in
     none_of (λ i. role_left_out p i.role) (imports_of m.info) import what (imports_pass p m.info.imports.modules encoded.groups) c e
@@ -264,23 +248,14 @@ module _ (p : WorldParts) (what : List ℕ) where
     | inr b ↦ let t = one_picked (adapter_out p) p.adapters what b in of_adapter t.element t.there t.picks
   ]
 
-  of_hooks : hooks_left_out p ≡ Some what → IsLeftOut p (refusals.LeftOut what)
-  of_hooks e = let h = hooked (are_hooked p.main p.adapters) what e in subst (λ (t : List ℕ). IsLeftOut p (refusals.LeftOut t)) h.1 (hooks h.0)
-
-  of_rest_of_modules : after_resources p (items_of p) ≡ Some what → IsLeftOut p (refusals.LeftOut what)
-  of_rest_of_modules e = elim (one_of (modules_left_out p (items_of p) (places_of p.resolve.types (items_of p).imports) (length (items_of p).imports)) (hooks_left_out p) what e) [
-    | inl a ↦ of_modules a
-    | inr b ↦ of_hooks b
-  ]
-
-  after_order : (resources_left_out p.resolve.types (items_of p).imports ≡ Some what) ⊎ (after_resources p (items_of p) ≡ Some what) → IsLeftOut p (refusals.LeftOut what)
+  after_order : (resources_left_out p.resolve.types (items_of p).imports ≡ Some what) ⊎ (modules_left_out p (items_of p) (places_of p.resolve.types (items_of p).imports) (length (items_of p).imports) ≡ Some what) → IsLeftOut p (refusals.LeftOut what)
   after_order (inl a) = of_resources (are_in_place p.resolve.types 0 (imported_numbers (items_of p).imports)) refl a
-  after_order (inr b) = of_rest_of_modules b
+  after_order (inr b) = of_modules b
 
   of_rest : rest_left_out p (items_of p) ≡ Some what → IsLeftOut p (refusals.LeftOut what)
   of_rest e = elim (one_of (order_left_out p.resolve (items_of p)) _ what e) [
     | inl a ↦ order what a
-    | inr b ↦ after_order (one_of (resources_left_out p.resolve.types (items_of p).imports) (after_resources p (items_of p)) what b)
+    | inr b ↦ after_order (one_of (resources_left_out p.resolve.types (items_of p).imports) (modules_left_out p (items_of p) (places_of p.resolve.types (items_of p).imports) (length (items_of p).imports)) what b)
   ]
 
   after_twice : (names_left_out p.resolve (items_of p) ≡ Some what) ⊎ (rest_left_out p (items_of p) ≡ Some what) → IsLeftOut p (refusals.LeftOut what)

@@ -577,5 +577,4 @@ module _ (p : WorldParts) (present : HasSoundParts p) (linked : AreLinked p) (en
         adapters_are p.adapters present.adapters encoded.adapters others.groups (λ key there. Contains-append_right p.main_exports (flat_map (λ a. a.1.required_exports) p.adapters) key there) linked.adapters;
     adapters_apart = let others = apart.modules.adapters in others.names;
     keys_apart = let once = are_once (all_required p) (items_of p) encoded.once in distinct is_same_key (all_required p) once.keys_apart;
-    unhooked = encoded.unhooked;
   }

@@ -1,12 +1,11 @@
 -- When the refusal of a world is right: something of it is not encoded yet. (This project's own.)
-use Rattle.std.specs.Prelude.{◌≡◌, ℕ, List, length, codes, Option, Some, Contains, true}
+use Rattle.std.specs.Prelude.{◌≡◌, ℕ, List, length, codes, Option, Some, Contains}
 use Rattle.wit_data.specs.declared.worlds.WorldItem.{WorldItem}
 use Rattle.wit_data.specs.declared.worlds.WorldKey.{WorldKey}
 use Rattle.comp_roles.specs.CoreImports.{CoreImport}
 use Rattle.comp_roles.specs.declared.exports.Export.{Export}
 use Rattle.comp_roles.specs.declared.imports.Import.{Import}
 use Rattle.comp_worlds.specs.Encodable.{ImportsResources}
-use Rattle.comp_worlds.specs.Hooking.{are_hooked}
 use Rattle.comp_worlds.specs.Uses.{imports_of}
 use Rattle.comp_worlds.specs.WorldTables.{whole_of}
 use Rattle.comp_worlds.specs.declared.world.WorldParts.{WorldParts}
@@ -38,8 +37,6 @@ pub data IsLeftOut (p : WorldParts) : Refusal → Type 0 where
   names : (AreExportsNamed p.resolve (items_of p).exports → ⊥) → IsLeftOut p (refusals.LeftOut (codes "interface"))
   order : (what : List ℕ) → order_left_out p.resolve (items_of p) ≡ Some what → IsLeftOut p (refusals.LeftOut what)
   resources : (ImportsResources (whole_of p) → ⊥) → IsLeftOut p (refusals.LeftOut (codes "type"))
-  -- main's task hook, where it would be called round more than main's initialization
-  hooks : are_hooked p.main p.adapters ≡ true → IsLeftOut p (refusals.LeftOut (codes "task-hook"))
   -- the role of an import or an export of a user module
   import_role : (m : UserModule) (import : CoreImport) (what : List ℕ) → Contains (user_modules p) m → Contains (imports_of m.info) import → role_left_out p import.role ≡ Some what → IsLeftOut p (refusals.LeftOut what)
   own_role : (m : UserModule) (import : CoreImport) (what : List ℕ) → Contains (user_modules p) m → Contains (imports_of m.info) import → own_role_out p m.keys import.role ≡ Some what → IsLeftOut p (refusals.LeftOut what)

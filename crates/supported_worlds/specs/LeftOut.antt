@@ -8,8 +8,7 @@
 -- a function that an adapter exports, an item of an argument of a library, a built-in function without
 -- operands or a function of the thread-local base, and core exports that are a post-return, a callback,
 -- a destructor, a memory, a realloc, an initialization or a task hook; of main, of adapters and of
--- libraries. Where main has a task hook, there may be no realloc and no destructor that the hook would be
--- called round. All else is left out, and reported by the name of its kind. (The names are
+-- libraries. All else is left out, and reported by the name of its kind. (The names are
 -- those of this project's record.)
 use Rattle.std.specs.Prelude.{ℕ, Bool, true, ◌++◌, List, length, codes, Option, Some, None, Result, Ok, Err, get_or, is_some, if◌then◌else◌}
 use Rattle.std.specs.List.{flat_map}
@@ -39,7 +38,6 @@ use Rattle.world_values.specs.Items.{no_items, functions_of}
 use Rattle.world_values.specs.Mentions.{same_interface, interfaces_of}
 use Rattle.comp_worlds.specs.Encodable.{Entries}
 use Rattle.comp_worlds.specs.ExportOrder.{interface_among}
-use Rattle.comp_worlds.specs.Hooking.{are_hooked}
 use Rattle.comp_worlds.specs.WorldTables.{whole_of}
 use Rattle.comp_worlds.specs.declared.world.ComponentWorld.{ComponentWorld}
 use Rattle.comp_worlds.specs.declared.world.ValidatedModule.{ValidatedModule}
@@ -229,18 +227,10 @@ abbrev pub modules_left_out : WorldParts → World → List ℕ → ℕ → Opti
 modules_left_out p w places root =
     option_or (module_left_out p.resolve w.exports places root p.main_exports p.main) (first_some (adapter_left_out p.resolve w.exports places root) p.adapters)
 
--- main's task hook, where it would be called round a realloc or a destructor
-abbrev pub hooks_left_out : WorldParts → Option (List ℕ)
-hooks_left_out p = if are_hooked p.main p.adapters then Some (codes "task-hook") else None
-
--- the modules first, then the hook
-abbrev pub after_resources : WorldParts → World → Option (List ℕ)
-after_resources p w = option_or (modules_left_out p w (places_of p.resolve.types w.imports) (length w.imports)) (hooks_left_out p)
-
 -- what is left out of a world whose interfaces are apart: the order of its items first, then its
 -- resources, then its modules
 abbrev pub after_order : WorldParts → World → Option (List ℕ)
-after_order p w = option_or (resources_left_out p.resolve.types w.imports) (after_resources p w)
+after_order p w = option_or (resources_left_out p.resolve.types w.imports) (modules_left_out p w (places_of p.resolve.types w.imports) (length w.imports))
 
 abbrev pub rest_left_out : WorldParts → World → Option (List ℕ)
 rest_left_out p w = option_or (order_left_out p.resolve w) (after_order p w)

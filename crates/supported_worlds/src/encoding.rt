@@ -11,7 +11,7 @@ ghost use Rattle.record_faults.specs.declared.fault.Refusal.{Refusal as RefusalV
 ghost use Rattle.supported_worlds.specs.Apart.{AreApart, ModulesApart};
 ghost use Rattle.supported_worlds.specs.Causes.{IsLeftOut};
 ghost use Rattle.supported_worlds.specs.Distinct.{are_apart};
-ghost use Rattle.supported_worlds.specs.LeftOut.{items_of, all_required, twice_left_out, modules_left_out, after_resources, after_order, rest_left_out, named_left_out, left_out, refused, encoded};
+ghost use Rattle.supported_worlds.specs.LeftOut.{items_of, all_required, twice_left_out, modules_left_out, after_order, rest_left_out, named_left_out, left_out, refused, encoded};
 ghost use Rattle.supported_worlds.specs.Once.{IsRequiredOnce};
 ghost use Rattle.world_values.specs.Mentions.{same_interface, interfaces_of};
 ghost use Rattle.supported_worlds.specs.Guarantees.{HasSoundParts};
@@ -19,7 +19,6 @@ ghost use Rattle.supported_worlds.specs.Links.{AreLinked};
 ghost use Rattle.supported_worlds.specs.Placed.{places_of};
 ghost use Rattle.supported_worlds.specs.PlaceTables.{ArePlaces};
 
-use crate::hooks::hooks_left_out;
 use crate::items::world_left_out;
 use crate::modules::{adapters_left_out, module_left_out};
 use crate::naming::names_left_out;
@@ -96,24 +95,6 @@ fn modules_left_out(
     Ok(found)
 }
 
-/// What is left out of the modules of a world, and its task hook.
-fn after_resources(
-    alloc: Global,
-    parts: &WorldParts,
-    world: &World,
-    places: &Places,
-) -> Result<Option<&'static str>, AllocError>
-    requires places { ArePlaces parts.now.resolve.types world.now.imports places.now }
-    requires once { IsRequiredOnce parts.now world.now }
-    ensures reported { IfOk result (λ o. option_copied o ≡ after_resources parts.now world.now) }
-    ensures apart { IfOk result (λ o. option_copied o ≡ None → ModulesApart parts.now) }
-{
-    match modules_left_out(alloc, parts, world, places)? {
-        Some(what) => Ok(Some(what)),
-        None => Ok(hooks_left_out(parts)),
-    }
-}
-
 /// What is left out of the resources of a world and of its modules.
 fn after_order(
     alloc: Global,
@@ -129,7 +110,7 @@ fn after_order(
 {
     match resources_left_out(&parts.resolve, &world.imports) {
         Some(what) => Ok(Some(what)),
-        None => after_resources(alloc, parts, world, places),
+        None => modules_left_out(alloc, parts, world, places),
     }
 }
 

@@ -98,7 +98,6 @@ valid_of bytes core = record {
   adapters = tt;
   adapters_apart = none;
   keys_apart = no_key;
-  unhooked = refl;
 }
 
 none_twice : IsDistinct same_interface []

@@ -1,22 +1,23 @@
 //! The module that fills the table of the shims, initializes main, with its task hook round that, and
 //! has a wrapper for each function that is called with the task hook round it.
 
-ghost use Rattle.std.specs.Prelude.{◌≡◌, ◌+◌, ◌<◌, ◌^◌, ℕ, List, length, IfOk, OnOk, IfErr};
+ghost use Rattle.std.specs.Prelude.{◌≡◌, ◌+◌, ◌<◌, ◌≤◌, ◌^◌, ℕ, List, length, IfSome, IfOk, OnOk, IfErr};
 ghost use Rattle.fixup_modules.specs.Faults.{of_build};
 ghost use Rattle.fixup_modules.specs.Fixups.{Fixup, nothing_fixed, with_shim};
 ghost use Rattle.fixup_modules.specs.Sections.{encoded_fixup};
 ghost use Rattle.world_shims.specs.Refusals.{IsFullOrMemory, HasTooMany, IsOfCounts, of_fault, IsUntyped, IsFixupCause, fixup_sources, ShareName, IsFixupRefusal};
 ghost use Rattle.world_shims.specs.Fixing.{IsNext, IsFromActual};
-ghost use Rattle.world_shims.specs.WorldShims.{type_of_shim, fixup_with, with_call, with_hook, hook_index, with_task_wrapper, with_wrappers, wrapped, instance_of_user, fixup_of, AreUnlike, IsTyped, AreTyped, AreTypedIf, starting_fixup};
+ghost use Rattle.world_shims.specs.WorldShims.{type_of_shim, fixup_with, with_call, with_hook, hook_index, with_task_wrapper, with_wrappers, is_of_realloc, realloc_place, with_fill_if, with_slot, with_slots, wrapped, instance_of_user, fixup_of, AreUnlike, IsTyped, AreTyped, AreTypedIf, starting_fixup};
 ghost use Rattle.std.specs.Option.{option_copied};
 
 use crate::core_type::core_type;
 use crate::fault::FixupFault;
 use byte_encoding::BuildFault;
-use comp_lists::TryClone;
+use comp_lists::{Text, TryClone};
 use comp_roles::MainOrAdapter;
+use core_runs::Bracketed;
 use fixup_modules::{EncodedFixup, FixupModule, ImportedInstance, ShimFault};
-use shim_plan::{Shim, Shims};
+use shim_plan::{Shim, ShimKind, Shims};
 use std::alloc::{AllocError, Global};
 use task_wrappers::TaskWrapper;
 
@@ -177,20 +178,105 @@ fn add_each(
     Ok(())
 }
 
-/// The same, where main has a task hook, by its index.
+/// Whether this is the wrapper of a realloc that a module exports under this name.
+fn is_of_realloc(wrapper: &TaskWrapper, of: &MainOrAdapter, export: &Text) -> bool
+    ensures { result ≡ is_of_realloc of.now export.now wrapper.now }
+{
+    wrapper.kind == Bracketed::Realloc && wrapper.of == *of && wrapper.name == *export
+}
+
+/// The place of the wrapper of a realloc, the last where there are several.
+fn realloc_place(wrappers: &[TaskWrapper], of: &MainOrAdapter, export: &Text) -> Option<u32>
+    requires { length wrappers.now < 2 ^ 32 }
+    ensures { result ≡ realloc_place 0 of.now export.now wrappers.now }
+{
+    let mut last = None;
+    let mut place = 0;
+    for wrapper in wrappers {
+        if is_of_realloc(wrapper, of, export) {
+            last = Some(place);
+        }
+        place += 1;
+    }
+    last
+}
+
+/// Lets the wrapper of this place fill a slot, if one is given.
+fn fill_if(fixup: &mut FixupModule, slot: u32, place: Option<u32>)
+    requires slot { slot < length fixup.old.fills }
+    requires place { IfSome place (λ p. p < length fixup.old.wrappers) }
+    ensures { fixup.new ≡ with_fill_if fixup.old slot place }
+{
+    if let Some(place) = place {
+        fixup.fill_with_wrapper(slot, place);
+    }
+}
+
+/// Lets the slot of a shim be filled with a wrapper, where the shim is of a realloc or of a destructor.
+fn wrap_slot(
+    fixup: &mut FixupModule,
+    hook: u32,
+    slot: u32,
+    kind: &ShimKind,
+    wrappers: &[TaskWrapper],
+) -> Result<(), FixupFault>
+    requires slot { slot < length fixup.old.fills }
+    requires few { length wrappers.now < 2 ^ 32 }
+    requires wrapped { length wrappers.now ≤ length fixup.old.wrappers }
+    ensures ok { OnOk result (fixup.new ≡ with_slot fixup.old hook slot kind.now wrappers.now) }
+{
+    match kind {
+        ShimKind::Realloc { module, export } => {
+            fill_if(fixup, slot, realloc_place(wrappers, module, export));
+            Ok(())
+        }
+        ShimKind::ResourceDtor { .. } => match fixup.wrap_destructor(hook, slot) {
+            Ok(()) => Ok(()),
+            Err(fault) => Err(fixup_fault(fault)),
+        },
+        _ => Ok(()),
+    }
+}
+
+/// The same for each shim, in order.
+fn wrap_slots(
+    fixup: &mut FixupModule,
+    hook: u32,
+    shims: &Shims,
+    wrappers: &[TaskWrapper],
+) -> Result<(), FixupFault>
+    requires slots { length fixup.old.fills ≡ length shims.now }
+    requires few { length wrappers.now < 2 ^ 32 }
+    requires wrapped { length wrappers.now ≤ length fixup.old.wrappers }
+    ensures ok { OnOk result (fixup.new ≡ with_slots fixup.old hook 0 shims.now wrappers.now) }
+{
+    let mut slot = 0;
+    let each = shims.iter();
+    for shim in each {
+        wrap_slot(fixup, hook, slot, &shim.kind, wrappers)?;
+        slot += 1;
+    }
+    Ok(())
+}
+
+/// Wraps functions of user modules, and what the shims of reallocs and of destructors stand for, where main has a
+/// task hook, by its index.
 fn add_wrappers(
     alloc: Global,
     fixup: &mut FixupModule,
     hook: Option<u32>,
+    shims: &Shims,
     wrappers: &[TaskWrapper],
 ) -> Result<(), FixupFault>
-    requires { AreTypedIf fixup.old hook wrappers.now }
-    ensures ok { OnOk result (fixup.new ≡ wrapped fixup.old hook wrappers.now) }
+    requires typed { AreTypedIf fixup.old hook wrappers.now }
+    requires slots { length fixup.old.fills ≡ length shims.now }
+    ensures ok { OnOk result (fixup.new ≡ wrapped fixup.old hook shims.now wrappers.now) }
 {
-    match hook {
-        Some(index) => add_each(alloc, fixup, index, wrappers),
-        None => Ok(()),
-    }
+    let Some(index) = hook else {
+        return Ok(());
+    };
+    add_each(alloc, fixup, index, wrappers)?;
+    wrap_slots(fixup, index, shims, wrappers)
 }
 
 /// The module that is instantiated last, with its arguments and its exports, or `None` where there is
@@ -198,7 +284,7 @@ fn add_wrappers(
 /// type, the function `initialize` and the task hook `hook`, where main has them, from `main`, the
 /// functions that are wrapped, where main has a hook, from the modules that export them, and the table
 /// of the shims, where there are any, from `shim`; slot number i is filled with the function of shim
-/// number i; then main is initialized, and the hook is called before and after that; and each wrapper
+/// number i, or with its wrapper, where that is a realloc or a destructor and main has a hook; then main is initialized, and the hook is called before and after that; and each wrapper
 /// calls the hook round its function.
 ///
 /// It is refused with [`FixupFault::InstanceKind`] exactly where two instances from which it would
@@ -234,7 +320,7 @@ pub fn fixup_of_shims(
 {
     let mut fixup = fixup_with_shims(alloc, shims)?;
     let hook = add_calls(&mut fixup, initialize, hook)?;
-    add_wrappers(alloc, &mut fixup, hook, wrappers)?;
+    add_wrappers(alloc, &mut fixup, hook, shims, wrappers)?;
     match fixup.encode(debug_names) {
         Ok(encoded) => Ok(encoded),
         Err(fault) => Err(fixup_fault(fault)),

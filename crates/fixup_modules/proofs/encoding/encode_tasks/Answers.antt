@@ -15,4 +15,4 @@ returns-clause-ok c =
     ap₂ (λ sections instances. build sections instances c.in_ok-exports.exports)
     (c.in_ok-module.ensures ∙ rw (c.in_ok-own_type.ensures.types, c.in_ok-table.ensures.imports, c.in_ok-table.ensures.index, c.in_ok-own_type.ensures.index) refl)
     (c.into_instances.ensures ∙ ap (λ (m : Imported). m.instances) c.in_ok-table.ensures.imports)
-    ∙ ap (λ exports. build (fixup_sections f c.args.debug_names) (all_imported f).instances exports) c.in_ok-exports.ensures.ok
+    ∙ ap (λ exports. build (fixup_sections f c.args.debug_names) (all_imported f).instances exports) c.in_ok-exports.ensures

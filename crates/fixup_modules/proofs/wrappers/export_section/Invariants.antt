@@ -2,7 +2,7 @@ use Rattle.std.proofs.Common.{◌≡◌, ◌+◌, ◌++◌, drop}
 use Rattle.fixup_modules.specs.Sections.{exports_from}
 use Rattle.fixup_modules.proofs.wrappers.export_section.Given as goal
 
-abbrev pub invariant-loop-export : goal.invariant-loop-export
-invariant-loop-export l =
-    (l.section ++ exports_from l.index (drop l.export-index l.exports) ≡ exports_from l.first l.exports)
-    × (l.index ≡ l.first + l.export-index)
+abbrev pub invariant-loop-wrapper : goal.invariant-loop-wrapper
+invariant-loop-wrapper l =
+    (l.section ++ exports_from (l.first + l.place) l.place (drop l.wrapper-index l.wrappers) ≡ exports_from l.first 0 l.wrappers)
+    × (l.place ≡ l.wrapper-index)

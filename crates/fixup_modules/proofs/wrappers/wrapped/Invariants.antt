@@ -1,4 +1,4 @@
-use Rattle.std.proofs.Common.{◌≡◌, ◌++◌, length, drop}
+use Rattle.std.proofs.Common.{◌≡◌, ◌++◌, drop}
 use Rattle.fixup_modules.specs.Sections.{wrapped_from}
 use Rattle.fixup_modules.proofs.wrappers.wrapped.Given as goal
 
@@ -6,4 +6,3 @@ abbrev pub invariant-loop-wrapper : goal.invariant-loop-wrapper
 invariant-loop-wrapper l =
     (l.all ++ wrapped_from l.place (drop l.wrapper-index l.wrappers) ≡ wrapped_from 0 l.wrappers)
     × (l.place ≡ l.wrapper-index)
-    × (length l.all ≡ l.wrapper-index)
