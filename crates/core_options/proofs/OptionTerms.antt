@@ -24,7 +24,7 @@ use Rattle.comp_terms.specs.Terms as terms
 use Rattle.std.specs.Result.{IsErrAnd, IfErr}
 use Rattle.comp_items.proofs.Kept.{Longer, instance-kept, exported-kept, options-kept}
 use Rattle.core_options.specs.Causes.{IsListRefusal, IsOptionRefusal}
-use Rattle.core_options.specs.MainOptions.{export_ref_of, IsInstanceExport, IsMemoryIf, IsAliasOf, IsAliasIf, IsReallocOf, IsReallocIf, AreOptionSources, AreUserInstances, NameOptions}
+use Rattle.core_options.specs.MainOptions.{export_ref_of, IsInstanceExport, IsMemoryIf, IsAliasOf, IsAliasIf, IsReallocOf, IsReallocIf, IsReallocSource, AreOptionSources, AreUserInstances, NameOptions}
 use Rattle.core_options.specs.declared.modules.InstanceExport.{InstanceExport}
 use Rattle.core_options.specs.declared.modules.UserInstances.{UserInstances}
 use Rattle.core_options.specs.declared.options.OptionSources.{OptionSources}
@@ -194,8 +194,12 @@ pub export_if_kept : (w : ComponentWorld) (old new : List Def) → Longer old ne
 export_if_kept w old new g None h = tt
 export_if_kept w old new g (Some e) h = instance_export_kept g h
 
-pub option_sources_kept : {w : ComponentWorld} {old new : List Def} {s : OptionSources} → Longer old new → AreOptionSources w old s → AreOptionSources w new s
-option_sources_kept {w} {old} {new} {s} g h = record { memory = memory_kept old new g (main_memory w) s.memory h.memory; realloc = export_if_kept w old new g s.realloc h.realloc }
+pub realloc_source_kept : (w : ComponentWorld) (old new : List Def) → Longer old new → (e : Option InstanceExport) → IfSome e (IsReallocSource w old) → IfSome e (IsReallocSource w new)
+realloc_source_kept w old new g None h = tt
+realloc_source_kept w old new g (Some e) h = record { exported = h.exported; of = instance-kept g h.of; function = h.function; aliased = h.aliased; named = h.named }
+
+pub option_sources_kept : {w : ComponentWorld} {old new : List Def} {needed : ℕ} {s : OptionSources} → Longer old new → AreOptionSources w old needed s → AreOptionSources w new needed s
+option_sources_kept {w} {old} {new} {needed} {s} g h = record { memory = memory_kept old new g (main_memory w) s.memory h.memory; realloc = λ is. realloc_source_kept w old new g s.realloc (h.realloc is) }
 
 pub instances_kept : {w : ComponentWorld} {old new : List Def} {u : UserInstances} → Longer old new → AreUserInstances w old u → AreUserInstances w new u
 instances_kept {w} {old} {new} {u} g h = record {

@@ -196,10 +196,10 @@ pub record IsReallocSource (w : ComponentWorld) (ds : List Def) (e : InstanceExp
   pub aliased : exported.name ≡ e.alias.now
   pub named : IsReallocFor w exported (export_ref_of e)
 
--- main's memory, and the realloc, where there are any
-pub record AreOptionSources (w : ComponentWorld) (ds : List Def) (s : OptionSources) : Type 0 where
+-- main's memory, if there is one, and the realloc, where this set of options needs it and there is one
+pub record AreOptionSources (w : ComponentWorld) (ds : List Def) (needed : ℕ) (s : OptionSources) : Type 0 where
   pub memory : IsMemoryIf ds (main_memory w) s.memory
-  pub realloc : IfSome s.realloc (IsReallocSource w ds)
+  pub realloc : IsTrue (needs needed realloc_bit) → IfSome s.realloc (IsReallocSource w ds)
 
 -- the options name what those of the target do, by terms between them
 pub record NameOptions (w : ComponentWorld) (ds : List Def) (written : List CanonicalOption) (options : List TargetOption) : Type 0 where

@@ -147,7 +147,7 @@ pub fn options_for(
     encoding: StringEncoding,
 ) -> Result<Seq<CanonicalOption>, StateFault>
     requires valid { IsEncodable root.old.world.now }
-    requires sources { AreOptionSources root.old.world.now root.old.items.defs sources.now }
+    requires sources { AreOptionSources root.old.world.now root.old.items.defs needed.0 sources.now }
     ensures same { root.new ≡ record root.old { items = root.new.items } }
     ensures extends { Extends root.old.items root.new.items }
     ensures grows { OnOk result

@@ -91,7 +91,7 @@ module _ (w : ComponentWorld) where
     valid = h.valid;
     user = user-kept (longer g.extends) h.user;
     tabled = h.tabled;
-    sources = option_sources_kept (longer g.extends) h.sources;
+    sources = λ needed. option_sources_kept (longer g.extends) (h.sources needed);
     realloc = h.realloc;
     tables = subst (λ l. AreTablesRight w l new.instances new.items.defs new.maps) (sym g.met) g.tables;
     passed = subst (ArePassed w) (sym g.met) h.passed;
@@ -103,7 +103,7 @@ module _ (w : ComponentWorld) where
     valid = h.valid;
     user = user-kept (longer g.extends) h.user;
     tabled = h.tabled;
-    sources = option_sources_kept (longer g.extends) h.sources;
+    sources = λ needed. option_sources_kept (longer g.extends) (h.sources needed);
     realloc = h.realloc;
     tables = g.tables;
     passed = subst (λ (last : Option TypeId). AllByRecursion (λ (t : List ℕ × TypeId). t.1.index < next_of last) (imported_types w)) (sym g.last) h.passed;

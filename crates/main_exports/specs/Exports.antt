@@ -77,7 +77,7 @@ pub record AreExports (w : ComponentWorld) (e : ModuleExports) (root : Root) : T
   pub valid : IsEncodable w
   pub user : IsUserInstance w root.items.defs e.user
   pub tabled : AreTablesOf e.user.found.now.exports.exports e.tables
-  pub sources : AreOptionSources w root.items.defs e.sources
+  pub sources : (needed : ℕ) → AreOptionSources w root.items.defs needed e.sources
   pub hooked : AreHooked w root.items.defs (option_copied e.hooked)
   pub realloc : option_map export_ref_of e.sources.realloc ≡ lift_realloc w (exporter e)
   pub tables : AreTablesRight w root.met root.instances root.items.defs root.maps

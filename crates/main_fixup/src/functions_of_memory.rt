@@ -35,7 +35,8 @@ fn function_behind(
     function: MemoryFunction,
 ) -> Result<u32, StateFault>
     requires valid { IsEncodable root.old.world.now }
-    requires sources { AreOptionSources root.old.world.now root.old.items.defs sources.now }
+    requires sources { AreOptionSources root.old.world.now root.old.items.defs
+        (function_options function).0 sources.now }
     requires behind { IsFunctionBehind root.old.world.now shim.now function
         (option_map export_ref_of sources.now.realloc) }
     ensures same { root.new ≡ record root.old { items = root.new.items } }

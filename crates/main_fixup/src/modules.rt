@@ -1,7 +1,7 @@
 //! User modules, as the kinds of shims name them: their instances, and the options of calls of their imports,
 //! and of reads and writes of streams and futures.
 
-ghost use Rattle.std.specs.Prelude.{◌≡◌, ℕ, Some, IfSome, IfOk};
+ghost use Rattle.std.specs.Prelude.{◌≡◌, ℕ, Some, IfSome, IfOk, IsTrue};
 ghost use Rattle.std.specs.Option.{option_map};
 ghost use Rattle.comp_links.specs.Links.{lower_realloc, realloc_of, module_of};
 ghost use Rattle.comp_roles.specs.Reallocs.{is_realloc_of};
@@ -9,7 +9,8 @@ ghost use Rattle.comp_links.specs.Modules.{IsModule, module_found};
 ghost use Rattle.comp_links.specs.Targets.{Adapter};
 ghost use Rattle.comp_terms.specs.Terms.{IsInstanceOf};
 ghost use Rattle.core_options.specs.MainOptions.{IsInstanceExport, IsReallocSource, AreOptionSources, export_ref_of, user_of};
-ghost use Rattle.main_fixup.specs.Filling.{IsUserNamed, HasFillSources};
+ghost use Rattle.main_fixup.specs.Filling.{IsUserNamed, HasFillSources, IsReallocAtHand};
+ghost use Rattle.comp_options.specs.Options.{needs, realloc_bit};
 
 use crate::sources::FillSources;
 use comp_lists::Text;
@@ -97,7 +98,8 @@ fn lowered_realloc<'a>(
     requires made { IsInstanceExport root.now.world.now root.now.items.defs export }
     ensures same { IfOk result (λ x. export_ref_of x ≡ export_ref_of export.entry) }
     ensures source { IfOk result
-        (IsReallocSource root.now.world.now root.now.items.defs) }
+        (λ x. IsReallocAtHand root.now.world.now (Some (export_ref_of x))
+        → IsReallocSource root.now.world.now root.now.items.defs x) }
 {
     if root.world.main.exports.wasm_task_hook().is_none() {
         return Ok(export);
@@ -132,7 +134,8 @@ fn lowered_if<'a>(
     ensures same { IfOk result
         (λ x. option_map export_ref_of x ≡ option_map export_ref_of export.entry) }
     ensures source { IfOk result
-        (λ x. IfSome x (IsReallocSource root.now.world.now root.now.items.defs)) }
+        (λ x. IsReallocAtHand root.now.world.now (option_map export_ref_of x)
+        → IfSome x (IsReallocSource root.now.world.now root.now.items.defs)) }
 {
     match export {
         Some(export) => Ok(Some(lowered_realloc(root, sources, export)?)),
@@ -166,8 +169,10 @@ pub(crate) fn options_of_calls<'a>(
 ) -> Result<OptionSources<'a>, AllocError>
     requires sources { HasFillSources root.now sources.now }
     requires named { IsUserNamed root.now.world.now (module_of which.now) }
-    ensures options { IfOk result
-        (λ s. AreOptionSources root.now.world.now root.now.items.defs s) }
+    ensures options { IfOk result (λ s. (needed : ℕ)
+        → (IsTrue (needs needed realloc_bit)
+        → IsReallocAtHand root.now.world.now (option_map export_ref_of s.realloc))
+        → AreOptionSources root.now.world.now root.now.items.defs needed s) }
     ensures realloc { IfOk result (λ s. option_map export_ref_of s.realloc
         ≡ lower_realloc root.now.world.now (module_of which.now)) }
 {
@@ -210,8 +215,10 @@ pub(crate) fn options_of_payload<'a>(
 ) -> Result<OptionSources<'a>, AllocError>
     requires sources { HasFillSources root.now sources.now }
     requires named { IsUserNamed root.now.world.now (module_of which.now) }
-    ensures options { IfOk result
-        (λ s. AreOptionSources root.now.world.now root.now.items.defs s) }
+    ensures options { IfOk result (λ s. (needed : ℕ)
+        → (IsTrue (needs needed realloc_bit)
+        → IsReallocAtHand root.now.world.now (option_map export_ref_of s.realloc))
+        → AreOptionSources root.now.world.now root.now.items.defs needed s) }
     ensures realloc { IfOk result (λ s. option_map export_ref_of s.realloc
         ≡ realloc_of root.now.world.now (module_of which.now) (is_realloc_of imported)) }
 {

@@ -37,7 +37,8 @@ fn access_behind(
     encoding: StringEncoding,
 ) -> Result<u32, StateFault>
     requires valid { IsEncodable root.old.world.now }
-    requires sources { AreOptionSources root.old.world.now root.old.items.defs sources.now }
+    requires sources { AreOptionSources root.old.world.now root.old.items.defs
+        shim.now.options.0 sources.now }
     requires behind { IsAccessBehind root.old.world.now shim.now info.now kind encoding
         (option_map export_ref_of sources.now.realloc) }
     requires of { IsPayloadFor root.old.world.now (payload_scope info.now) info.now.ty }
