@@ -3,6 +3,7 @@
 #![tactic(auto, using(comp_items::proofs::Extending::extends_none, comp_items::proofs::Extending::extends_same, comp_items::proofs::Extending::extends_then, main_fixup::proofs::Filled::kept_as_is, main_fixup::proofs::Filled::kept_added))]
 
 ghost use Rattle.std.specs.Prelude.{◌≡◌, IfOk, IfErr, OnOk};
+ghost use Rattle.core_options.specs.MainOptions.{AreHooked};
 ghost use Rattle.std.specs.List.{AllByRecursion};
 ghost use Rattle.comp_worlds.specs.Encodable.{IsEncodable};
 ghost use Rattle.core_instances.specs.Instances.{MayAddFixup, IsFixupNext, of_fixup, fixup_of_world};
@@ -75,6 +76,7 @@ pub(crate) fn encode_indirect_lowerings(
     ensures kept { RootKept root.old.world.now root.old root.new }
     ensures added { OnOk result
         (MayAddFixup root.old.world.now debug_names root.old.items.defs root.new.items.defs) }
+    ensures hooked { IfOk result (AreHooked root.old.world.now root.new.items.defs) }
     ensures offered { OnOk result
         (AllByRecursion (HasShimOptions root.old.world.now) (shims_of root.old.world.now)) }
     ensures cause { IfErr result (IsCause root.old.world.now) }

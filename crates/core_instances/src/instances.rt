@@ -12,7 +12,7 @@ ghost use Rattle.comp_worlds.specs.Made.{AreMadeInOrder};
 ghost use Rattle.root_imports.specs.Met.{AreExportsMet};
 ghost use Rattle.core_instances.specs.Instances.{AreImportsMade, AreUserModules, AddsInstances};
 ghost use Rattle.core_options.specs.Causes.{IsCause};
-ghost use Rattle.core_options.specs.MainOptions.{AreUserInstances, HasLowerOptions};
+ghost use Rattle.core_options.specs.MainOptions.{AreUserInstances, HasLowerOptions, AreHooked};
 
 use crate::fixup::encode_indirect_lowerings;
 use crate::plan::{plan_cell, plan_shims};
@@ -73,6 +73,8 @@ pub fn encode_core_instantiation(
     ensures ordered { OnOk result (AreExportsInOrder root.old.world.now) }
     ensures met { OnOk result (AreExportsMet root.old.world.now root.new.met) }
     ensures made { IfOk result (AreUserInstances root.old.world.now root.new.items.defs) }
+    ensures hooked { IfOk result
+        (λ u. AreHooked root.old.world.now root.new.items.defs u.hooked) }
     ensures supplied { OnOk result (AllByRecursion
         (λ (i : UserImport). IsSuppliedImport root.old.world.now i.of i.core.role)
         (user_imports root.old.world.now)) }

@@ -24,7 +24,8 @@ use Rattle.comp_terms.specs.Terms as terms
 use Rattle.std.specs.Result.{IsErrAnd, IfErr}
 use Rattle.comp_items.proofs.Kept.{Longer, instance-kept, exported-kept, options-kept}
 use Rattle.core_options.specs.Causes.{IsListRefusal, IsOptionRefusal}
-use Rattle.core_options.specs.MainOptions.{export_ref_of, IsInstanceExport, IsMemoryIf, IsAliasOf, IsAliasIf, IsReallocOf, IsReallocIf, IsReallocSource, AreOptionSources, AreUserInstances, NameOptions}
+use Rattle.core_options.specs.declared.hooked.HookedExports.{HookedExports}
+use Rattle.core_options.specs.MainOptions.{export_ref_of, IsInstanceExport, IsMemoryIf, IsAliasOf, IsAliasIf, IsReallocOf, IsReallocIf, IsReallocSource, AreOptionSources, AreUserInstances, AreHooked, NameOptions}
 use Rattle.core_options.specs.declared.modules.InstanceExport.{InstanceExport}
 use Rattle.core_options.specs.declared.modules.UserInstances.{UserInstances}
 use Rattle.core_options.specs.declared.options.OptionSources.{OptionSources}
@@ -200,6 +201,11 @@ realloc_source_kept w old new g (Some e) h = record { exported = h.exported; of 
 
 pub option_sources_kept : {w : ComponentWorld} {old new : List Def} {needed : ℕ} {s : OptionSources} → Longer old new → AreOptionSources w old needed s → AreOptionSources w new needed s
 option_sources_kept {w} {old} {new} {needed} {s} g h = record { memory = memory_kept old new g (main_memory w) s.memory h.memory; realloc = λ is. realloc_source_kept w old new g s.realloc (h.realloc is) }
+
+-- the fixup's instance stays what it is
+pub hooked_kept : {w : ComponentWorld} {old new : List Def} → Longer old new → (hooked : Option HookedExports) → AreHooked w old hooked → AreHooked w new hooked
+hooked_kept g None h = h
+hooked_kept g (Some hooked) h = (instance-kept g h.0, h.1)
 
 pub instances_kept : {w : ComponentWorld} {old new : List Def} {u : UserInstances} → Longer old new → AreUserInstances w old u → AreUserInstances w new u
 instances_kept {w} {old} {new} {u} g h = record {

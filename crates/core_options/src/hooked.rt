@@ -1,6 +1,9 @@
 //! What the instance of the fixup exports: functions that call main's task hook round those of user modules.
 
-ghost use Rattle.std.specs.Prelude.{◌≡◌};
+ghost use Rattle.std.specs.Prelude.{◌≡◌, List};
+ghost use Rattle.comp_worlds.specs.declared.world.ComponentWorld.{ComponentWorld};
+ghost use Rattle.comp_bytes.specs.declared.def.Def.{Def};
+ghost use Rattle.core_options.specs.MainOptions.{export_ref_of, IsInstanceExport, IsReallocSource, AreHooked, IsCalledExport};
 ghost use Rattle.std.specs.Option.{option_copied};
 ghost use Rattle.core_options.specs.Hooked.{is_instance, is_wrapped_as, last_named, hooked_name, hooked_instance, called_name};
 
@@ -65,6 +68,12 @@ pub fn hooked_export<'a>(
     ensures name { result.name ≡ export.entry.name }
     ensures alias { result.alias.now
         ≡ called_name (hooked_name (option_copied hooked.entry) export.entry) export.entry }
+    ensures source { (w : ComponentWorld)
+        → (ds : List Def)
+        → IsInstanceExport w ds export.entry
+        → AreHooked w ds (option_copied hooked.entry)
+        → IsCalledExport w (export_ref_of export.entry)
+        → IsReallocSource w ds result }
 {
     let Some(hooked) = hooked else {
         return export;
