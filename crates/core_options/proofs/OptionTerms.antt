@@ -187,14 +187,7 @@ alias_kept w old new g None None h = tt
 alias_kept w old new g (Some e) None h = absurd h
 alias_kept w old new g None (Some index) h = absurd h
 
--- so does an export of an instance
-pub instance_export_kept : {w : ComponentWorld} {old new : List Def} {e : InstanceExport} → Longer old new → IsInstanceExport w old e → IsInstanceExport w new e
-instance_export_kept g h = record { number = h.number; exporting = h.exporting; made = instance-kept g h.made; listed = h.listed; same = h.same; offered = h.offered }
-
-pub export_if_kept : (w : ComponentWorld) (old new : List Def) → Longer old new → (e : Option InstanceExport) → IfSome e (IsInstanceExport w old) → IfSome e (IsInstanceExport w new)
-export_if_kept w old new g None h = tt
-export_if_kept w old new g (Some e) h = instance_export_kept g h
-
+-- so does what calls have as their realloc
 pub realloc_source_kept : (w : ComponentWorld) (old new : List Def) → Longer old new → (e : Option InstanceExport) → IfSome e (IsReallocSource w old) → IfSome e (IsReallocSource w new)
 realloc_source_kept w old new g None h = tt
 realloc_source_kept w old new g (Some e) h = record { exported = h.exported; of = instance-kept g h.of; function = h.function; aliased = h.aliased; named = h.named }
