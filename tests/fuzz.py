@@ -104,7 +104,7 @@ def corpus():
             parts = text.split("] ", 1)[-1].split(" + ")
             names = ["main", *(it.partition(": ")[0].split(" ")[-1].split("=")[0] for it in parts[1:])]
             groups.append([(name, *module_and_records(it.partition(": ")[2] if at else it)) for at, (name, it) in enumerate(zip(names, parts))])
-    for file in ("modules", "roles", "encoded", "left_out"):
+    for file in ("modules", "roles", "encoded"):
         for _, text in [it.partition(": ")[2].split(" <- ", 1) for it in read(f"{TOP}/crates/record_cases/data/{file}.txt").decode().splitlines() if " <- " in it]:
             if module := digits(text):
                 groups.append([("main", *parts_of_module(module))])

@@ -33,7 +33,7 @@ use Rattle.comp_terms.specs.Exports.{IsNestedFor}
 use Rattle.comp_terms.specs.Rules.{IsFixupArgument, IsItemRight, IsRight, RightAfter, IsBuilt}
 use Rattle.fixup_modules.specs.declared.instances.ImportedInstance.{ImportedInstance}
 use Rattle.shim_plan.specs.declared.shims.Shim.{Shim}
-use Rattle.world_shims.specs.WorldShims.{shims_of, initialize_of, fixup_instances}
+use Rattle.world_shims.specs.WorldShims.{shims_of, initialize_of, hook_of, fixup_instances}
 use Rattle.comp_bytes.specs.Scopes.{Scoped}
 use Rattle.comp_check.proofs.Faults.{fault_no}
 use Rattle.comp_check.specs.Faults.{IsUnchecked}
@@ -87,11 +87,13 @@ unfolding IsDistinct
 three_apart = ((refl, (refl, tt)), ((refl, tt), (tt, tt)))
 
 -- so have those of the fixup
-fixup_apart : (shims : List Shim) (initialize : Option (List ℕ)) → IsDistinct bytes_eq (map (λ i. i.0) (fixup_instances shims initialize))
-fixup_apart [] None = none_apart
-fixup_apart [] (Some name) = one_apart (codes "main")
-fixup_apart (s ∷ ss) None = two_apart
-fixup_apart (s ∷ ss) (Some name) = three_apart
+fixup_apart : (shims : List Shim) (initialize hook : Option (List ℕ)) → IsDistinct bytes_eq (map (λ i. i.0) (fixup_instances shims initialize hook))
+fixup_apart [] None None = none_apart
+fixup_apart [] None (Some hook) = one_apart (codes "main")
+fixup_apart [] (Some name) hook = one_apart (codes "main")
+fixup_apart (s ∷ ss) None None = two_apart
+fixup_apart (s ∷ ss) None (Some hook) = three_apart
+fixup_apart (s ∷ ss) (Some name) hook = three_apart
 
 fixup_names : (w : ComponentWorld) (earlier : List Def) (arguments : List CoreArgument) (sources : List (List ℕ × ImportedInstance)) → AllZip (IsFixupArgument w earlier) arguments sources → map (λ (a : CoreArgument). a.name) arguments ≡ map (λ i. i.0) sources
 fixup_names w earlier [] [] h = refl
@@ -113,8 +115,8 @@ module _ (w : ComponentWorld) (valid : IsWorld w) where
         (apart (map (λ a. a.name) arguments) (subst (λ (ns : Names). IsDistinct bytes_eq ns) (sym names) (user_module_apart number h.of h.listed)), tt)
     item_lists earlier (items.CoreInstantiate number arguments) (inr (inl h)) k = (apart (map (λ a. a.name) arguments) (subst (λ (as' : List CoreArgument). IsDistinct bytes_eq (map (λ a. a.name) as')) (sym h.closed) none_apart), tt)
     item_lists earlier (items.CoreInstantiate number arguments) (inr (inr h)) k =
-        let sources : List (List ℕ × ImportedInstance) = fixup_instances (shims_of w) (initialize_of w) in
-        (apart (map (λ a. a.name) arguments) (subst (λ (ns : Names). IsDistinct bytes_eq ns) (sym (fixup_names w earlier arguments sources h.given)) (fixup_apart (shims_of w) (initialize_of w))), tt)
+        let sources : List (List ℕ × ImportedInstance) = fixup_instances (shims_of w) (initialize_of w) (hook_of w) in
+        (apart (map (λ a. a.name) arguments) (subst (λ (ns : Names). IsDistinct bytes_eq ns) (sym (fixup_names w earlier arguments sources h.given)) (fixup_apart (shims_of w) (initialize_of w) (hook_of w))), tt)
     item_lists earlier (items.CoreExports entries) h k = (apart (map (λ e. e.name) entries) h.apart, tt)
     item_lists earlier (items.Instantiate component arguments) h k = (apart (map (λ a. a.name) arguments) h.apart, tt)
     item_lists earlier (items.InstanceType t) h k = k

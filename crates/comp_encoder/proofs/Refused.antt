@@ -34,6 +34,7 @@ module _ {L B F : Type 0} (l : lower.Ghosts L B F) where
   from_state e w (state.NoEncoding place) is h = subst (λ x. LacksEncoding x place) is.prepared h
   from_state e w (state.NotYetMade adapter name) is h = subst (λ x. IsNotYetMade x adapter name) is.prepared h
   from_state e w (state.LaterExport interface used) is h = subst (λ x. ExportsLater x interface used) is.prepared h
+  from_state e w (state.InstanceKind name) is h = subst (λ x. SharesFixupName x name) is.prepared h
   from_state e w (state.TooMany excess) is h = h
 
   pub from_output : (e : Encoder L B) (w : ComponentWorld) (o : OutputFault) → IsWorldOf l e w → IsOutputRefusal (naming e) w e.gathered.options.validate o → IsEncodeRefusal l e (of_output o)

@@ -7,7 +7,7 @@ use Rattle.comp_worlds.specs.Bases.{HasUnlikeBases}
 use Rattle.comp_worlds.specs.Made.{IsNotYetMade}
 use Rattle.comp_worlds.specs.declared.lower.Lower as lower
 use Rattle.comp_encoder.specs.Encoder.{Encoder, main_bytes, naming}
-use Rattle.core_options.specs.Causes.{LacksMemory, LacksRealloc, LacksEncoding, ExportsLater}
+use Rattle.core_options.specs.Causes.{LacksMemory, LacksRealloc, LacksEncoding, ExportsLater, SharesFixupName}
 use Rattle.comp_links.specs.Modules.{user_imports}
 use Rattle.comp_links.specs.Lists.{required_functions}
 use Rattle.comp_check.specs.declared.fault.CheckFault.TheVariants as checks
@@ -19,7 +19,7 @@ use Rattle.comp_encoder.specs.declared.output.OutputFault.TheVariants as outputs
 use Rattle.core_options.specs.declared.fault.StateFault.{StateFault}
 use Rattle.core_options.specs.declared.fault.StateFault.TheVariants as state
 use Rattle.comp_encoder.specs.declared.fault.EncodeFault.{EncodeFault}
-use Rattle.comp_encoder.specs.declared.fault.EncodeFault.TheVariants.{Memory, NoModule, Lower, UnknownAdapter, CanonicalNames, TlsTypes, NoMemory, NoRealloc, NoEncoding, NotYetMade, LaterExport, Output, TooMany}
+use Rattle.comp_encoder.specs.declared.fault.EncodeFault.TheVariants.{Memory, NoModule, Lower, UnknownAdapter, CanonicalNames, TlsTypes, NoMemory, NoRealloc, NoEncoding, NotYetMade, LaterExport, InstanceKind, Output, TooMany}
 
 -- a canonical name that is shared as a fault of the encoder
 abbrev pub of_shared : {F : Type 0} → SharedName → EncodeFault F
@@ -34,6 +34,7 @@ of_state (state.NoRealloc place) = NoRealloc place
 of_state (state.NoEncoding place) = NoEncoding place
 of_state (state.NotYetMade adapter name) = NotYetMade adapter name
 of_state (state.LaterExport interface used) = LaterExport interface used
+of_state (state.InstanceKind name) = InstanceKind name
 of_state (state.TooMany excess) = TooMany excess
 
 -- a fault of the output as one of the encoder
@@ -67,6 +68,7 @@ module _ {L B F : Type 0} (l : lower.Ghosts L B F) where
   IsModuleRefusal e bytes (NoEncoding place) = ⊥
   IsModuleRefusal e bytes (NotYetMade adapter name) = ⊥
   IsModuleRefusal e bytes (LaterExport interface used) = ⊥
+  IsModuleRefusal e bytes (InstanceKind name) = ⊥
   IsModuleRefusal e bytes (Output fault) = ⊥
   IsModuleRefusal e bytes (TooMany excess) = ⊥
 
@@ -83,6 +85,7 @@ module _ {L B F : Type 0} (l : lower.Ghosts L B F) where
   IsEncodeRefusal e (NoEncoding place) = LacksEncoding (l.prepared e.lower e.gathered) place
   IsEncodeRefusal e (NotYetMade adapter name) = IsNotYetMade (l.prepared e.lower e.gathered) adapter name
   IsEncodeRefusal e (LaterExport interface used) = ExportsLater (l.prepared e.lower e.gathered) interface used
+  IsEncodeRefusal e (InstanceKind name) = SharesFixupName (l.prepared e.lower e.gathered) name
   IsEncodeRefusal e (Output fault) = IsTrue e.gathered.options.validate × IsCheckCause (naming e) (l.prepared e.lower e.gathered) fault
   IsEncodeRefusal e (TooMany excess) = 2 ^ 32 ≤ excess
   IsEncodeRefusal e (UnknownAdapter library name) = ⊥

@@ -390,6 +390,7 @@ impl<L: Lower> ComponentEncoder<L> {
     /// - `E7`, `E8`, `E9` where a call needs a memory, a realloc or a string encoding that its module lacks,
     /// - `E10` where a library names a module that is instantiated after it,
     /// - `E11` where an exported interface uses types of one that is exported after it,
+    /// - `E12` where two instances from which the fixup imports have one name,
     /// - `E15` where `validate` is on, and a name of an import or an export occurs twice or is not well formed,
     /// - `E16` where a count or a size passes 2^32 - 1.
     ///

@@ -81,6 +81,12 @@ pub enum EncodeFault<F> {
         interface: Text,
         used: Text,
     },
+    /// Two instances from which the fixup imports have this name: an adapter that is named as another one of
+    /// them, and exports a function that is called with main's task hook round it.
+    #[error("E12 InstanceKind name={name}")]
+    InstanceKind {
+        name: Text,
+    },
     /// `validate` is on, and a name of an import or an export occurs twice, or is not well formed. The fault
     /// is that of `comp_check`, and reports the name.
     #[error("E15 Output: {0}")]
@@ -143,6 +149,7 @@ impl<F> From<StateFault> for EncodeFault<F> {
             StateFault::LaterExport { interface, used } => {
                 EncodeFault::LaterExport { interface, used }
             }
+            StateFault::InstanceKind { name } => EncodeFault::InstanceKind { name },
             StateFault::TooMany { excess } => EncodeFault::TooMany { excess },
         }
     }

@@ -156,7 +156,14 @@ impl ExportMap {
         ensures { option_copied result
             ≡ first_export (is_post_return key.now function.now.name) self.now.exports }
     {
-        let function = function.name.as_str();
+        self.post_return_of(key, function.name.as_str())
+    }
+
+    /// The same, by the function's name.
+    pub fn post_return_of(&self, key: &WorldKey, function: &str) -> Option<&str>
+        ensures { option_copied result
+            ≡ first_export (is_post_return key.now function.now) self.now.exports }
+    {
         first(&self.exports, &PostReturn { key, function })
     }
 
@@ -165,7 +172,14 @@ impl ExportMap {
         ensures { option_copied result
             ≡ first_export (is_callback key.now function.now.name) self.now.exports }
     {
-        let function = function.name.as_str();
+        self.callback_of(key, function.name.as_str())
+    }
+
+    /// The same, by the function's name.
+    pub fn callback_of(&self, key: &WorldKey, function: &str) -> Option<&str>
+        ensures { option_copied result
+            ≡ first_export (is_callback key.now function.now) self.now.exports }
+    {
         first(&self.exports, &Callback { key, function })
     }
 

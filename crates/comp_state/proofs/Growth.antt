@@ -9,8 +9,8 @@ use Rattle.root_imports.specs.declared.met_types.MetTypes.{MetTypes}
 use Rattle.wit_types.specs.declared.maps.TypeEncodingMaps.{TypeEncodingMaps}
 use Rattle.comp_worlds.specs.Encodable.{IsEncodable}
 use Rattle.comp_worlds.specs.declared.world.ComponentWorld.{ComponentWorld}
-use Rattle.core_options.proofs.OptionTerms.{instances_kept}
-use Rattle.core_options.specs.MainOptions.{AreUserInstances}
+use Rattle.core_options.proofs.OptionTerms.{instances_kept, hooked_kept}
+use Rattle.core_options.specs.MainOptions.{AreUserInstances, AreHooked}
 use Rattle.core_options.specs.declared.modules.UserInstances.{UserInstances}
 use Rattle.comp_items.specs.Items.{Extends}
 use Rattle.comp_items.proofs.Extending.{extends_none, extends_same, extends_then}
@@ -34,7 +34,7 @@ pub ruleset growing = (extends_none, extends_same, extends_then)
 -- ---- the look-ups hold what they held
 
 users-kept : {w : ComponentWorld} {old new : Built} {users : Option UserInstances} → Extends old new → AreUsersMade w old.defs users → AreUsersMade w new.defs users
-users-kept g h = record { instances = h.instances; known = h.known; made = instances_kept (longer g) h.made }
+users-kept g h = record { instances = h.instances; known = h.known; made = instances_kept (longer g) h.made; hooked = hooked_kept (longer g) h.instances.hooked h.hooked }
 
 -- before the first step
 pub encoding-start : (w : ComponentWorld) (met : MetTypes) (items : Built) (maps : TypeEncodingMaps) (instances : List (InterfaceId × ℕ)) (functions : List (List ℕ × ℕ)) → IsEncodable w →
@@ -79,8 +79,8 @@ encoding-moved {w} {met} {after} g t last ready h = record {
 
 -- after the instances of the user modules
 pub encoding-instantiated : {w : ComponentWorld} {met : MetTypes} {ds : List Def} {maps : TypeEncodingMaps} {instances : List (InterfaceId × ℕ)} {step : Step} {functions : List (List ℕ × ℕ)} {users : Option UserInstances} →
-    (made : UserInstances) → AreImported step → AreUserInstances w ds made → AreExportsReady w met ds → IsEncoding w met ds maps instances step functions users → IsEncoding w met ds maps instances Instantiated functions (Some made)
-encoding-instantiated made s are ready h = record { valid = h.valid; imported = λ _. h.imported s; made = λ _. record { instances = made; known = refl; made = are }; exports = λ _. ready }
+    (made : UserInstances) → AreImported step → AreUserInstances w ds made → AreHooked w ds made.hooked → AreExportsReady w met ds → IsEncoding w met ds maps instances step functions users → IsEncoding w met ds maps instances Instantiated functions (Some made)
+encoding-instantiated made s are hooked ready h = record { valid = h.valid; imported = λ _. h.imported s; made = λ _. record { instances = made; known = refl; made = are; hooked = hooked }; exports = λ _. ready }
 
 -- after the imports
 pub encoding-imported : {w : ComponentWorld} {met after : MetTypes} {old new : List Def} {maps now : TypeEncodingMaps} {first instances : List (InterfaceId × ℕ)} {step : Step} {before functions : List (List ℕ × ℕ)} {users : Option UserInstances} →
@@ -93,6 +93,11 @@ encoding-imported i h = record { valid = h.valid; imported = λ _. i; made = λ 
 pub users_made : {w : ComponentWorld} {met : MetTypes} {ds : List Def} {maps : TypeEncodingMaps} {instances : List (InterfaceId × ℕ)} {step : Step} {functions : List (List ℕ × ℕ)} {users : Option UserInstances} →
     IsEncoding w met ds maps instances step functions users → step ≡ Instantiated → (kept : UserInstances) → users ≡ Some kept → AreUserInstances w ds kept
 users_made {w} {met} {ds} h i kept known = let m = h.made i in subst (λ u. AreUserInstances w ds u) (same_Some m.instances kept (sym m.known ∙ known)) m.made
+
+-- and so is what calls the hook round their functions
+pub users_hooked : {w : ComponentWorld} {met : MetTypes} {ds : List Def} {maps : TypeEncodingMaps} {instances : List (InterfaceId × ℕ)} {step : Step} {functions : List (List ℕ × ℕ)} {users : Option UserInstances} →
+    IsEncoding w met ds maps instances step functions users → step ≡ Instantiated → (kept : UserInstances) → users ≡ Some kept → AreHooked w ds kept.hooked
+users_hooked {w} {met} {ds} h i kept known = let m = h.made i in subst (λ u. AreHooked w ds u.hooked) (same_Some m.instances kept (sym m.known ∙ known)) m.hooked
 
 -- the imports are there
 pub imports_made : {w : ComponentWorld} {met : MetTypes} {ds : List Def} {maps : TypeEncodingMaps} {instances : List (InterfaceId × ℕ)} {step : Step} {functions : List (List ℕ × ℕ)} {users : Option UserInstances} →

@@ -8,7 +8,7 @@ use Rattle.comp_worlds.specs.Encodable.{IsEncodable}
 use Rattle.comp_worlds.specs.declared.world.ComponentWorld.{ComponentWorld}
 use Rattle.comp_worlds.specs.ExportOrder.{AreExportsInOrder}
 use Rattle.comp_terms.specs.Exports.{exports_in}
-use Rattle.core_options.specs.MainOptions.{AreUserInstances}
+use Rattle.core_options.specs.MainOptions.{AreUserInstances, AreHooked}
 use Rattle.core_options.specs.declared.modules.UserInstances.{UserInstances}
 use Rattle.main_exports.specs.Exports.{AreExportsAtHand}
 use Rattle.core_instances.specs.Instances.{AreImportsMade}
@@ -16,11 +16,12 @@ use Rattle.comp_state.specs.Encoding.{AreImported}
 use Rattle.comp_state.specs.declared.state.Step.{Step}
 use Rattle.comp_state.specs.declared.state.Step.TheVariants.{Instantiated}
 
--- the instances of the user modules
+-- the instances of the user modules, and that of the fixup, where it is there
 pub record AreUsersMade (w : ComponentWorld) (ds : List Def) (users : Option UserInstances) : Type 0 where
   pub instances : UserInstances
   pub known : users ≡ Some instances
   pub made : AreUserInstances w ds instances
+  pub hooked : AreHooked w ds instances.hooked
 
 -- the types of each interface that has to be exported are at hand, and each comes behind those that it uses
 pub record AreExportsReady (w : ComponentWorld) (met : MetTypes) (ds : List Def) : Type 0 where

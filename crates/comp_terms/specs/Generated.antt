@@ -31,7 +31,9 @@ use Rattle.comp_links.specs.Targets.{UserModule, Main, Adapter, ExportRef, Targe
 use Rattle.shim_plan.specs.declared.kinds.ShimKind.{ShimKind}
 use Rattle.shim_plan.specs.declared.kinds.ShimKind.TheVariants as kinds
 use Rattle.shim_plan.specs.declared.shims.Shim.{Shim}
-use Rattle.world_shims.specs.WorldShims.{shims_of, initialize_of, type_of_shim, sections_of_shims, sections_of_fixup}
+use Rattle.task_wrappers.specs.TaskWrappers.{task_wrappers}
+use Rattle.task_wrappers.specs.declared.wrappers.TaskWrapper.{TaskWrapper}
+use Rattle.world_shims.specs.WorldShims.{shims_of, initialize_of, hook_of, type_of_shim, sections_of_shims, sections_of_fixup}
 
 -- ---- the modules
 
@@ -45,14 +47,16 @@ has_shims_in (s ∷ ss) memory cell = true
 abbrev pub has_shim_module : ComponentWorld → Bool
 has_shim_module w = has_shims_in (shims_of w) (shared_memory w) (cell_type w)
 
--- and a fixup where there is a shim to fill, or main is to be initialized
-abbrev pub has_tasks_in : List Shim → Option (List ℕ) → Bool
-has_tasks_in [] None = false
-has_tasks_in [] (Some name) = true
-has_tasks_in (s ∷ ss) initialize = true
+-- and a fixup where there is a shim to fill, main is to be initialized, or a function is called with main's task
+-- hook round it
+abbrev pub has_tasks_in : List Shim → Option (List ℕ) → List TaskWrapper → Bool
+has_tasks_in [] None [] = false
+has_tasks_in [] None (t ∷ ts) = true
+has_tasks_in [] (Some name) wrappers = true
+has_tasks_in (s ∷ ss) initialize wrappers = true
 
 abbrev pub has_fixup : ComponentWorld → Bool
-has_fixup w = has_tasks_in (shims_of w) (initialize_of w)
+has_fixup w = has_tasks_in (shims_of w) (initialize_of w) (task_wrappers w)
 
 -- the user modules come first, then the module of shims, where there is one, and then the fixup
 abbrev pub shims_number : ComponentWorld → ℕ
@@ -76,7 +80,7 @@ IsShimModule w debug_names (Some bytes) = Encodes bytes (sections_of_shims (shar
 
 abbrev pub IsFixup : ComponentWorld → Bool → Option (List ℕ) → Type 0
 IsFixup w debug_names None = has_fixup w ≡ false
-IsFixup w debug_names (Some bytes) = Encodes bytes (sections_of_fixup (shims_of w) (initialize_of w) debug_names) × (has_fixup w ≡ true)
+IsFixup w debug_names (Some bytes) = Encodes bytes (sections_of_fixup (shims_of w) (initialize_of w) (hook_of w) (task_wrappers w) debug_names) × (has_fixup w ≡ true)
 
 -- They encode the modules that are generated for the world, with debug names or without; and all user modules agree on
 -- the type of what the cell holds.

@@ -38,8 +38,11 @@ use Rattle.shim_modules.specs.Shims.{getter_name, setter_name}
 use Rattle.shim_plan.specs.declared.kinds.ShimKind.{ShimKind}
 use Rattle.shim_plan.specs.declared.kinds.ShimKind.TheVariants as shim_kinds
 use Rattle.shim_plan.specs.declared.shims.Shim.{Shim}
-use Rattle.world_shims.specs.WorldShims.{shims_of}
-use Rattle.comp_terms.specs.Generated.{shims_number, role_of_kind, Purpose, target_of, HasPurpose}
+use Rattle.fixup_modules.specs.Sections.{hook_name}
+use Rattle.task_wrappers.specs.TaskWrappers.{task_wrappers}
+use Rattle.task_wrappers.specs.declared.wrappers.TaskWrapper.{TaskWrapper}
+use Rattle.world_shims.specs.WorldShims.{shims_of, hook_of}
+use Rattle.comp_terms.specs.Generated.{shims_number, fixup_number, role_of_kind, Purpose, target_of, HasPurpose}
 use Rattle.comp_terms.specs.Shimmed.{has_shim, shim_owner}
 use Rattle.comp_worlds.specs.Offered.{shared_memory}
 use Rattle.comp_terms.specs.Terms.{CoreExport, TermOption, Term, IsInstanceOf, IsExported, IsLifting, Is}
@@ -85,18 +88,31 @@ pub record IsShimExport (w : ComponentWorld) (e : CoreExport) (target : Target) 
   pub stands : IsShimPlace w place target
   pub is : e ≡ shim_export w place
 
--- the realloc of calls: the export itself, or a shim for it, where the calls are made before the
--- module that exports it is instantiated
+-- what calls main's task hook round an export of a user module: the fixup's instance exports it by its place
+pub record IsWrapperExport (w : ComponentWorld) (e : CoreExport) (export_ref : ExportRef) : Type 0 where
+  pub place : ℕ
+  pub wrapper : TaskWrapper
+  pub listed : slice_get (task_wrappers w) place ≡ Some wrapper
+  pub of : module_of wrapper.of ≡ export_ref.of
+  pub named : wrapper.name ≡ export_ref.name
+  pub is : e ≡ record { of = fixup_number w; kind = kinds.Func; name = hook_name place }
+
+-- what is called for one: where main has no task hook, the export itself, and otherwise that
+abbrev pub IsCalledFor : ComponentWorld → CoreExport → ExportRef → Type 0
+IsCalledFor w e export_ref = ((hook_of w ≡ None) × IsExportFor w e export_ref) ⊎ IsWrapperExport w e export_ref
+
+-- the realloc of calls: what is called for the export, or a shim for it, where the calls are made before the
+-- module that exports it is instantiated, or main has a task hook
 abbrev pub IsReallocFor : ComponentWorld → CoreExport → ExportRef → Type 0
-IsReallocFor w e export_ref = IsExportFor w e export_ref ⊎ IsShimExport w e (targets.ExportOf export_ref)
+IsReallocFor w e export_ref = IsCalledFor w e export_ref ⊎ IsShimExport w e (targets.ExportOf export_ref)
 
 abbrev pub IsOptionFor : ComponentWorld → TermOption → TargetOption → Type 0
 IsOptionFor w (terms.Encoding e) (targets.Encoding e') = e ≡ e'
 IsOptionFor w (terms.Memory e) targets.Memory = IsMemoryFor w e
 IsOptionFor w (terms.Realloc e) (targets.Realloc export_ref) = IsReallocFor w e export_ref
-IsOptionFor w (terms.PostReturn e) (targets.PostReturn export_ref) = IsExportFor w e export_ref
+IsOptionFor w (terms.PostReturn e) (targets.PostReturn export_ref) = IsCalledFor w e export_ref
 IsOptionFor w terms.Async targets.Async = Unit {0}
-IsOptionFor w (terms.Callback e) (targets.Callback export_ref) = IsExportFor w e export_ref
+IsOptionFor w (terms.Callback e) (targets.Callback export_ref) = IsCalledFor w e export_ref
 IsOptionFor w term option = ⊥
 
 -- the type of a function of the world
@@ -119,7 +135,8 @@ pub record IsTypeOf (w : ComponentWorld) (function : WorldFunction) (type : Func
   pub imported : function_imported w function ≡ Some wit
   pub typed : type ≡ type_of_function w wit
 
--- the term is what the target names, where no shim and no wrapper is between them but for the realloc of calls
+-- the term is what the target names, where no shim is between them but for the realloc of calls, and no wrapper but
+-- for what a lift calls
 abbrev pub IsTermFor : ComponentWorld → Target → Term → Type 0
 IsTermFor w (targets.Lowered function options) (terms.Lowering origin type written) = IsOriginOf w function origin × IsTypeOf w function type × AllZip (IsOptionFor w) written options
 IsTermFor w (targets.ExportOf export_ref) (terms.Exported e) = IsExportFor w e export_ref
@@ -128,7 +145,7 @@ IsTermFor w (targets.OfResource function id) (terms.OfResource same resource) = 
 IsTermFor w (targets.BuiltIn name operand options) (terms.BuiltIn same tree written) = (same ≡ name) × (tree ≡ operand_tree (resource_of w) w.resolve.types operand) × AllZip (IsOptionFor w) written options
 IsTermFor w targets.TlsGet (terms.Exported e) = e ≡ cell_export w getter_name
 IsTermFor w targets.TlsSet (terms.Exported e) = e ≡ cell_export w setter_name
-IsTermFor w (targets.Lifted entry options) (terms.Lifting e written type) = IsExportFor w e entry × AllZip (IsOptionFor w) written options
+IsTermFor w (targets.Lifted entry options) (terms.Lifting e written type) = IsCalledFor w e entry × AllZip (IsOptionFor w) written options
 IsTermFor w _ term = ⊥
 
 -- the item of this index in a space is a term that the target names

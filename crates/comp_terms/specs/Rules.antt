@@ -57,7 +57,10 @@ use Rattle.comp_terms.specs.Terms.{InstanceOf as InstanceTerm, imports_in, IsFun
 use Rattle.fixup_modules.specs.declared.instances.ImportedInstance.{ImportedInstance as FixupInstance}
 use Rattle.fixup_modules.specs.declared.instances.ImportedInstance.TheVariants as sources
 use Rattle.shim_modules.specs.Shims.{getter_name, setter_name}
-use Rattle.world_shims.specs.WorldShims.{shims_of, initialize_of, fixup_instances}
+use Rattle.comp_roles.specs.declared.libraries.MainOrAdapter.TheVariants as modules
+use Rattle.fixup_modules.specs.Sections.{hook_name}
+use Rattle.task_wrappers.specs.TaskWrappers.{task_wrappers}
+use Rattle.world_shims.specs.WorldShims.{shims_of, initialize_of, hook_of, fixup_instances}
 use Rattle.comp_terms.specs.UserBytes.{user_bytes}
 use Rattle.comp_terms.specs.Generated.{has_shim_module, has_fixup, shims_number, fixup_number, GeneratedBytes, AreGenerated}
 use Rattle.comp_worlds.specs.Bases.{cell_type}
@@ -133,12 +136,12 @@ shims_if w false = []
 abbrev pub made_before_fixup : ComponentWorld → List ℕ
 made_before_fixup w = shims_if w (has_shim_module w) ++ range_with_len 0 (length (user_modules w))
 
--- what the fixup imports from: what the shims stand for, main, or the module of shims
+-- what the fixup imports from: what the shims stand for, main, an adapter, or the module of shims
 abbrev pub IsFixupSource : ComponentWorld → List Def → ℕ → FixupInstance → Type 0
 IsFixupSource w earlier index sources.Actual = AreFillsFor w earlier index
 IsFixupSource w earlier index sources.Main = Is earlier spaces.CoreInstance index (InstanceTerm 0)
 IsFixupSource w earlier index sources.Shim = Is earlier spaces.CoreInstance index (InstanceTerm (shims_number w))
-IsFixupSource w earlier index (sources.Adapter name) = ⊥
+IsFixupSource w earlier index (sources.Adapter name) = IsInstanceFor w earlier index (modules.Adapter name)
 
 pub record IsFixupArgument (w : ComponentWorld) (earlier : List Def) (a : CoreArgument) (source : List ℕ × FixupInstance) : Type 0 where
   pub named : a.name ≡ source.0
@@ -151,7 +154,7 @@ pub record InstantiatesFixup (w : ComponentWorld) (earlier : List Def) (number :
   pub any : has_fixup w ≡ true
   pub scoped : number < items_in spaces.CoreModule earlier
   pub last : instances_in earlier ≡ made_before_fixup w
-  pub given : AllZip (IsFixupArgument w earlier) arguments (fixup_instances (shims_of w) (initialize_of w))
+  pub given : AllZip (IsFixupArgument w earlier) arguments (fixup_instances (shims_of w) (initialize_of w) (hook_of w) (task_wrappers w))
 
 abbrev pub InstantiatesModule : ComponentWorld → List Def → ℕ → List CoreArgument → Type 0
 InstantiatesModule w earlier number arguments = InstantiatesUser w earlier number arguments ⊎ InstantiatesShims w earlier number arguments ⊎ InstantiatesFixup w earlier number arguments
@@ -188,6 +191,14 @@ pub record AliasesCell (w : ComponentWorld) (earlier : List Def) (kind : ExportK
   pub named : (name ≡ getter_name) ⊎ (name ≡ setter_name)
   pub function : kind ≡ kinds.Func
 
+-- an alias of what calls main's task hook round a function of a user module, by its place
+pub record AliasesWrapper (w : ComponentWorld) (earlier : List Def) (kind : ExportKind) (instance : ℕ) (name : List ℕ) : Type 0 where
+  pub place : ℕ
+  pub is : Is earlier spaces.CoreInstance instance (InstanceTerm (fixup_number w))
+  pub listed : place < length (task_wrappers w)
+  pub named : name ≡ hook_name place
+  pub function : kind ≡ kinds.Func
+
 -- an entry of an inline instance names an earlier item
 pub record IsEntry (earlier : List Def) (e : CoreInlineExport) : Type 0 where
   pub scoped : e.index < items_in (kind_space e.kind) earlier
@@ -219,7 +230,7 @@ abbrev pub IsAliasRight : ComponentWorld → List Def → Alias → Type 0
 IsAliasRight w earlier (aliases.Export exports.Func instance name) = AliasesImported earlier spaces.Func instance name
 IsAliasRight w earlier (aliases.Export exports.Type instance name) = AliasesType earlier instance name
 IsAliasRight w earlier (aliases.CoreExport kind instance name) =
-    AliasesUser w earlier kind instance name ⊎ AliasesShim w earlier kind instance name ⊎ AliasesMemory w earlier kind instance name ⊎ AliasesCell w earlier kind instance name
+    AliasesUser w earlier kind instance name ⊎ AliasesShim w earlier kind instance name ⊎ AliasesMemory w earlier kind instance name ⊎ AliasesCell w earlier kind instance name ⊎ AliasesWrapper w earlier kind instance name
 IsAliasRight w earlier _ = ⊥
 
 -- a type of functions

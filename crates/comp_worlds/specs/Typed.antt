@@ -59,6 +59,10 @@ destructor_type = externs.Func (function_type (I32 ∷ []) [])
 abbrev pub initialize_type : ExternType
 initialize_type = externs.Func (function_type [] [])
 
+-- the type of a task hook, which takes the number of a moment
+abbrev pub hook_type : ExternType
+hook_type = externs.Func (function_type (I32 ∷ []) [])
+
 -- the type of a post-return: it takes the core results of the function
 abbrev pub post_return_type : Resolve → Function → ExternType
 post_return_type r f = externs.Func (function_type (map value_type (signature GuestExport r.types f).results) [])
@@ -105,7 +109,7 @@ type_of_export r items exports.GeneralPurposeImportRealloc = Some realloc_type
 type_of_export r items exports.GeneralPurposeExportRealloc = Some realloc_type
 type_of_export r items exports.ReallocForAdapter = Some realloc_type
 type_of_export r items exports.Initialize = Some initialize_type
-type_of_export r items role = None
+type_of_export r items exports.WasmTaskHook = Some hook_type
 
 -- an import of this type fits a role
 abbrev pub FitsRole : ComponentWorld → Import → ExternType → Type 0

@@ -149,7 +149,7 @@ pub record ExportsFunctionOf (w : ComponentWorld) (key : WorldKey) (id : Interfa
 
 -- the role of an export is a function that the world exports, at its root or in an interface,
 -- called in one of the forms of exports, the post-return or the callback of one, the destructor of a
--- resource, the memory, or a realloc
+-- resource, the memory, a realloc, what a module is initialized with, or a task hook
 abbrev pub IsExportRole : ComponentWorld → Export → Type 0
 IsExportRole w (exports.WorldFunc (keys.Name text) function abi) = Contains (exported_functions w) text × (function ≡ text) × IsExportForm abi
 IsExportRole w (exports.InterfaceFunc key id function abi) = ExportsFunctionOf w key id function × IsExportForm abi
@@ -164,6 +164,7 @@ IsExportRole w exports.GeneralPurposeImportRealloc = Unit {0}
 IsExportRole w exports.GeneralPurposeExportRealloc = Unit {0}
 IsExportRole w exports.ReallocForAdapter = Unit {0}
 IsExportRole w exports.Initialize = Unit {0}
+IsExportRole w exports.WasmTaskHook = Unit {0}
 IsExportRole w role = ⊥
 
 -- a required export is one of the world's, and the module has a core export for each of its

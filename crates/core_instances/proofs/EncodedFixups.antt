@@ -1,6 +1,6 @@
 -- The fixup of a world: there is one where there is something to do, and its arguments are the
 -- instances that it imports from.
-use Rattle.std.proofs.Common.{◌≡◌, ◌∙◌, ◌<◌, ◌^◌, ℕ, Bool, true, false, List, [], ◌∷◌, ◌++◌, length, Option, Some, None, refl, sym, ap₂, subst}
+use Rattle.std.proofs.Common.{◌≡◌, ◌∙◌, ◌<◌, ◌^◌, ℕ, Bool, true, false, List, [], ◌∷◌, length, Option, Some, None, if◌then◌else◌, refl, sym, ap, ap₂, subst}
 use Rattle.std.specs.Prelude.{Result, Ok, Err, OnOk, IfErr}
 use Rattle.std.specs.List.{AllByRecursion, range_with_len}
 use Rattle.comp_worlds.specs.declared.world.ComponentWorld.{ComponentWorld}
@@ -13,35 +13,48 @@ use Rattle.interface_needs.proofs.Lists.{contains_none}
 use Rattle.main_fixup.specs.Filling.{HasShimOptions}
 use Rattle.comp_terms.specs.Generated.{has_fixup, has_tasks_in}
 use Rattle.fixup_modules.specs.declared.encoding.EncodedFixup.{EncodedFixup}
-use Rattle.fixup_modules.specs.Sections.{if_none, module_with_instances, encoded_fixup}
+use Rattle.fixup_modules.specs.Sections.{is_idle, module_with_instances, encoded_fixup}
 use Rattle.shim_plan.specs.declared.shims.Shim.{Shim}
-use Rattle.world_shims.specs.WorldShims.{shims_of, initialize_of, fixup_of, sections_of_fixup, fixup_instances}
+use Rattle.world_shims.specs.WorldShims.{shims_of, initialize_of, hook_of, fixup_of, sections_of_fixup, fixup_instances, AreUnlike}
+use Rattle.world_shims.proofs.MainCalls.{calls_unlike}
+use Rattle.comp_worlds.specs.Worlds.{IsWorld}
 use Rattle.world_shims.proofs.Numbered.{shims_numbered}
-use Rattle.world_shims.proofs.FixupImports.{IsFixupOf, call_indices, fixup_is}
+use Rattle.world_shims.proofs.FixupImports.{IsFixupOf, users_of, fixup_is}
 
--- the fixup of these shims and this function, or none, where there is nothing to do
-abbrev pub IsEncodedFixup : List Shim → Option (List ℕ) → Bool → Option EncodedFixup → Type 0
-IsEncodedFixup shims initialize debug_names None = has_tasks_in shims initialize ≡ false
-IsEncodedFixup shims initialize debug_names (Some e) =
-    (has_tasks_in shims initialize ≡ true) × (e.«module» ≡ sections_of_fixup shims initialize debug_names) × (e.instances ≡ fixup_instances shims initialize)
+-- the fixup of these shims and these functions of main, or none, where there is nothing to do
+abbrev pub IsEncodedFixup : List Shim → Option (List ℕ) → Option (List ℕ) → Bool → Option EncodedFixup → Type 0
+IsEncodedFixup shims initialize hook debug_names None = has_tasks_in shims initialize ≡ false
+IsEncodedFixup shims initialize hook debug_names (Some e) =
+    (has_tasks_in shims initialize ≡ true) × (e.«module» ≡ sections_of_fixup shims initialize hook debug_names) × (e.instances ≡ fixup_instances shims initialize hook)
 
-encoded_with : (shims : List Shim) (initialize : Option (List ℕ)) (debug_names : Bool) → IsFixupOf shims initialize (fixup_of shims initialize) →
-    IsEncodedFixup shims initialize debug_names (if_none (range_with_len 0 (length shims) ++ call_indices (length shims) initialize) None (Some (module_with_instances (fixup_of shims initialize) debug_names)))
-encoded_with [] None debug_names h = refl
-encoded_with [] (Some name) debug_names h = (refl, refl, h.instances)
-encoded_with (s ∷ ss) initialize debug_names h = (refl, refl, h.instances)
+encoded_with : (shims : List Shim) (initialize hook : Option (List ℕ)) (debug_names : Bool) → IsFixupOf shims initialize hook (fixup_of shims initialize hook) →
+    IsEncodedFixup shims initialize hook debug_names (if is_idle (range_with_len 0 (length shims)) (users_of (length shims) initialize hook) [] then None else Some (module_with_instances (fixup_of shims initialize hook) debug_names))
+encoded_with [] None hook debug_names h = refl
+encoded_with [] (Some name) None debug_names h = (refl, refl, h.instances)
+encoded_with [] (Some name) (Some hook) debug_names h = (refl, refl, h.instances)
+encoded_with (s ∷ ss) initialize hook debug_names h = (refl, refl, h.instances)
 
-encoded_by : (shims : List Shim) (initialize : Option (List ℕ)) (debug_names : Bool) → IsFixupOf shims initialize (fixup_of shims initialize) → IsEncodedFixup shims initialize debug_names (encoded_fixup (fixup_of shims initialize) debug_names)
-encoded_by shims initialize debug_names h =
-    let f = fixup_of shims initialize in
-    let tasks : f.fills ++ f.calls ≡ range_with_len 0 (length shims) ++ call_indices (length shims) initialize = ap₂ (λ fills calls. fills ++ calls) h.fills h.calls in
-    subst (λ (l : List ℕ). IsEncodedFixup shims initialize debug_names (if_none l None (Some (module_with_instances f debug_names)))) (sym tasks) (encoded_with shims initialize debug_names h)
+encoded_by : (shims : List Shim) (initialize hook : Option (List ℕ)) (debug_names : Bool) → IsFixupOf shims initialize hook (fixup_of shims initialize hook) → IsEncodedFixup shims initialize hook debug_names (encoded_fixup (fixup_of shims initialize hook) debug_names)
+encoded_by shims initialize hook debug_names h =
+    let f = fixup_of shims initialize hook in
+    let idle : is_idle f.fills f.users f.wrappers ≡ is_idle (range_with_len 0 (length shims)) (users_of (length shims) initialize hook) [] =
+    ap₂ (λ fills users. is_idle fills users f.wrappers) h.fills h.users
+    ∙ ap (λ wrappers. is_idle (range_with_len 0 (length shims)) (users_of (length shims) initialize hook) wrappers) h.wrappers in
+    subst (λ (b : Bool). IsEncodedFixup shims initialize hook debug_names (if b then None else Some (module_with_instances f debug_names))) (sym idle) (encoded_with shims initialize hook debug_names h)
 
-pub encoded_for : (w : ComponentWorld) (debug_names : Bool) (shims : List Shim) (initialize : Option (List ℕ)) (made : Option EncodedFixup) → shims ≡ shims_of w → initialize ≡ initialize_of w →
-    length (shims_of w) < 2 ^ 32 → made ≡ encoded_fixup (fixup_of shims initialize) debug_names → IsEncodedFixup (shims_of w) (initialize_of w) debug_names made
-encoded_for w debug_names shims initialize made same called room is =
-    let here : made ≡ encoded_fixup (fixup_of (shims_of w) (initialize_of w)) debug_names = is ∙ ap₂ (λ ss i. encoded_fixup (fixup_of ss i) debug_names) same called in
-    subst (IsEncodedFixup (shims_of w) (initialize_of w) debug_names) (sym here) (encoded_by (shims_of w) (initialize_of w) debug_names (fixup_is (shims_of w) (initialize_of w) (shims_numbered w) room))
+-- the two functions of main have two names
+pub unlike_calls : (w : ComponentWorld) (initialize hook : Option (List ℕ)) → IsWorld w → initialize ≡ initialize_of w → hook ≡ hook_of w → AreUnlike initialize hook
+unlike_calls w initialize hook ok called hooked = subst (λ i. AreUnlike i hook) (sym called) (subst (λ h. AreUnlike (initialize_of w) h) (sym hooked) (calls_unlike w ok))
+
+pub encoded_for : (w : ComponentWorld) (debug_names : Bool) (shims : List Shim) (initialize hook : Option (List ℕ)) (made : Option EncodedFixup) → IsWorld w → shims ≡ shims_of w → initialize ≡ initialize_of w → hook ≡ hook_of w →
+    length (shims_of w) < 2 ^ 32 → made ≡ encoded_fixup (fixup_of shims initialize hook) debug_names → IsEncodedFixup (shims_of w) (initialize_of w) (hook_of w) debug_names made
+encoded_for w debug_names shims initialize hook made ok same called hooked room is =
+    let here : made ≡ encoded_fixup (fixup_of (shims_of w) (initialize_of w) (hook_of w)) debug_names =
+    is
+    ∙ ap (λ ss. encoded_fixup (fixup_of ss initialize hook) debug_names) same
+    ∙ ap₂ (λ i h. encoded_fixup (fixup_of (shims_of w) i h) debug_names) called hooked in
+    subst (IsEncodedFixup (shims_of w) (initialize_of w) (hook_of w) debug_names) (sym here)
+    (encoded_by (shims_of w) (initialize_of w) (hook_of w) debug_names (fixup_is (shims_of w) (initialize_of w) (hook_of w) (shims_numbered w) room (calls_unlike w ok)))
 
 -- ---- where it is added
 

@@ -12,7 +12,7 @@ use Rattle.comp_worlds.specs.Made.{modules_of_imports}
 use Rattle.comp_worlds.specs.Offered.{shared_memory}
 use Rattle.comp_worlds.specs.declared.world.ComponentWorld.{ComponentWorld}
 use Rattle.core_options.specs.MainOptions.{user_of, IsUser, AreUserInstances, IsMemoryIf}
-use Rattle.main_fixup.specs.Filling.{AreFillSources}
+use Rattle.main_fixup.specs.Filling.{AreFillSources, IsShimsAt}
 use Rattle.main_fixup.specs.declared.sources.FillSources.{FillSources}
 use Rattle.main_instance.specs.Sources.{AreSources, IsShimInstance, IsMemoryBefore, shared_export, IsMainInstance, IsMade}
 use Rattle.comp_links.specs.Targets.{Main}
@@ -39,8 +39,8 @@ module _ {w : ComponentWorld} {met : MetTypes} {old new : Built} {maps : TypeEnc
   pub sources_after : (s : ImportSources) → IsUser w s.user → AreImportsMade w s.functions.now met old.defs maps instances → AreExportsMet w met → AreExportsInOrder w → s.shims.now ≡ shims_of w → IsShimInstance w new.defs s.shim_instance → IsMemoryIf new.defs (shared_export w) s.memory → s.shares_memory ≡ is_some (shared_memory w) → user_of s.user.which ≡ Main → s.user.found.now ≡ w.main → AreSources w s met new.defs maps instances
   sources_after s user h exports ordered planned there memory shares main found = record { shares = shares; memory = subst (λ of. IsMemoryBefore w new.defs of s.memory) (sym main) memory; made = none_made w new.defs s.main s.adapters.now (modules_of_imports s.user.found.now) (ap modules_of_imports found ∙ none_named w h.valid.valid); main = subst (λ of. IsMainInstance new.defs of s.main) (sym main) tt; user = user; exports = exports; ordered = ordered; valid = h.valid; imports = FindsImports-kept (longer g) h.imports; used = h.used; shims = planned; shim_instance = there; tables = tables_kept w met instances old new maps g h.tables; passed = h.passed }
 
-  pub fills_after : (s : FillSources) → AreImportsMade w s.functions.now met old.defs maps instances → AreUserInstances w new.defs s.instances.now → AreExportsMet w met → AreExportsInOrder w → AreFillSources w s met new.defs maps instances
-  fills_after s h made exports ordered = record { exports = exports; ordered = ordered; valid = h.valid; imports = FindsImports-kept (longer g) h.imports; used = h.used; users = made; tables = tables_kept w met instances old new maps g h.tables; passed = h.passed }
+  pub fills_after : (s : FillSources) → AreImportsMade w s.functions.now met old.defs maps instances → AreUserInstances w new.defs s.instances.now → AreExportsMet w met → AreExportsInOrder w → s.shims.now ≡ shims_of w → ((shims_of w ≡ [] → ⊥) → IsShimsAt w new.defs s.shim_instance) → AreFillSources w s met new.defs maps instances
+  fills_after s h made exports ordered planned there = record { shims = planned; shims_made = there; exports = exports; ordered = ordered; valid = h.valid; imports = FindsImports-kept (longer g) h.imports; used = h.used; users = made; tables = tables_kept w met instances old new maps g h.tables; passed = h.passed }
 
 -- what was imported is still there in the root after more steps
 pub made_after : {w : ComponentWorld} {functions : List (List ℕ × ℕ)} (old new : Root) → RootMoved w old new → AreImportsMade w functions old.met old.items.defs old.maps old.instances →

@@ -30,7 +30,12 @@ use Rattle.root_imports.specs.RootScopes.{AreTablesRight, ArePassed}
 use Rattle.root_imports.specs.Imports.{FindsImports, FindsUsed}
 use Rattle.shim_plan.specs.declared.fault.ShimFault.{ShimFault}
 use Rattle.shim_plan.specs.declared.fault.ShimFault.TheVariants as plan
-use Rattle.world_shims.specs.WorldShims.{shims_of, initialize_of, sections_of_fixup}
+use Rattle.fixup_modules.specs.Sections.{encoded_fixup}
+use Rattle.fixup_modules.specs.declared.encoding.EncodedFixup.{EncodedFixup}
+use Rattle.task_wrappers.specs.TaskWrappers.{task_wrappers}
+use Rattle.world_shims.specs.WorldShims.{shims_of, initialize_of, hook_of, fixup_of, sections_of_fixup}
+use Rattle.world_shims.specs.declared.fault.FixupFault.{FixupFault}
+use Rattle.world_shims.specs.declared.fault.FixupFault.TheVariants as fixups
 use Rattle.main_fixup.specs.Filling.{IsShimsAt}
 use Rattle.core_options.specs.declared.fault.StateFault.{StateFault}
 use Rattle.core_options.specs.declared.fault.StateFault.TheVariants as faults
@@ -39,6 +44,16 @@ use Rattle.core_options.specs.declared.fault.StateFault.TheVariants as faults
 abbrev pub of_plan : ShimFault → StateFault
 of_plan plan.Memory = faults.Memory
 of_plan (plan.NoEncoding place) = faults.NoEncoding place
+
+-- one of the fixup, too
+abbrev pub of_fixup : FixupFault → StateFault
+of_fixup fixups.Memory = faults.Memory
+of_fixup (fixups.InstanceKind name) = faults.InstanceKind name
+of_fixup (fixups.TooMany n) = faults.TooMany n
+
+-- the fixup of a world, where it has one
+abbrev pub fixup_of_world : ComponentWorld → Bool → Option EncodedFixup
+fixup_of_world w debug_names = encoded_fixup (fixup_of (shims_of w) (initialize_of w) (hook_of w) (task_wrappers w)) debug_names
 
 -- ---- what is given
 
@@ -120,7 +135,7 @@ pub record IsFixupNext (w : ComponentWorld) (ds : List Def) (shim_instance : Opt
 -- the fixup's module and its instance
 pub record AddsFixup (w : ComponentWorld) (debug_names : Bool) (old new : List Def) : Type 0 where
   pub bytes : List ℕ
-  pub encodes : Encodes bytes (sections_of_fixup (shims_of w) (initialize_of w) debug_names)
+  pub encodes : Encodes bytes (sections_of_fixup (shims_of w) (initialize_of w) (hook_of w) (task_wrappers w) debug_names)
   pub grows : Grows w old new (ModuleIs bytes ∷ InstanceOf (fixup_number w) ∷ [])
 
 -- the same, where there is a fixup

@@ -12,7 +12,7 @@ ghost use Rattle.comp_worlds.specs.Made.{AreMadeInOrder};
 ghost use Rattle.root_imports.specs.Met.{AreExportsMet};
 ghost use Rattle.core_instances.specs.Instances.{AreImportsMade, AreUserModules, AddsInstances};
 ghost use Rattle.core_options.specs.Causes.{IsCause};
-ghost use Rattle.core_options.specs.MainOptions.{AreUserInstances, HasLowerOptions};
+ghost use Rattle.core_options.specs.MainOptions.{AreUserInstances, HasLowerOptions, AreHooked};
 
 use crate::fixup::encode_indirect_lowerings;
 use crate::plan::{plan_cell, plan_shims};
@@ -24,18 +24,25 @@ use exported_types::{ShimSources, define_exported_types};
 use main_fixup::FillSources;
 use main_instance::encode_shim_instantiation;
 use root_imports::RootScope;
+use shim_plan::Shims;
 
 /// What the fixup's lowerings are made from.
 fn fill_sources<'a>(
     functions: &'a Keyed<Text, u32>,
     instances: &'a UserInstances,
+    shims: &'a Shims,
+    shim_instance: Option<u32>,
 ) -> FillSources<'a>
     ensures functions { result.functions.now ≡ functions.now }
     ensures instances { result.instances.now ≡ instances.now }
+    ensures shims { result.shims.now ≡ shims.now }
+    ensures shim_instance { result.shim_instance ≡ shim_instance }
 {
     FillSources {
         functions,
         instances,
+        shims,
+        shim_instance,
     }
 }
 
@@ -50,7 +57,8 @@ fn fill_sources<'a>(
 /// bases of different types, `E7` where a function is lowered with a memory, or an import is main's
 /// memory, and main has none, `E8` where it is lowered with a realloc and there is none for the
 /// module, `E10` where an adapter names one that is not instantiated before it, and `E11` where an
-/// exported interface uses types of another one that isn't exported before it.
+/// exported interface uses types of another one that isn't exported before it, and `E12` where two
+/// instances from which the fixup imports have one name.
 pub fn encode_core_instantiation(
     root: &mut RootScope<'_, ComponentWorld>,
     functions: &Keyed<Text, u32>,
@@ -65,6 +73,8 @@ pub fn encode_core_instantiation(
     ensures ordered { OnOk result (AreExportsInOrder root.old.world.now) }
     ensures met { OnOk result (AreExportsMet root.old.world.now root.new.met) }
     ensures made { IfOk result (AreUserInstances root.old.world.now root.new.items.defs) }
+    ensures hooked { IfOk result
+        (λ u. AreHooked root.old.world.now root.new.items.defs u.hooked) }
     ensures supplied { OnOk result (AllByRecursion
         (λ (i : UserImport). IsSuppliedImport root.old.world.now i.of i.core.role)
         (user_imports root.old.world.now)) }
@@ -85,8 +95,15 @@ pub fn encode_core_instantiation(
     let world = root.world;
     let none = Keyed::new(root.items.allocator());
     let sources = sources_of(main_user(world), functions, &shims, generated, None, &none);
-    let instances = instantiate_users(root, &sources)?;
-    let sources = fill_sources(functions, &instances);
-    encode_indirect_lowerings(root, &sources, &shims, generated.instance, debug_names)?;
+    let mut instances = instantiate_users(root, &sources)?;
+    let sources = fill_sources(functions, &instances, &shims, generated.instance);
+    let hooked = encode_indirect_lowerings(
+        root,
+        &sources,
+        &shims,
+        generated.instance,
+        debug_names,
+    )?;
+    instances.hooked = hooked;
     Ok(instances)
 }

@@ -250,5 +250,6 @@ pub(crate) fn instantiate_users(
         main: main.index,
         memory: main.memory,
         adapters,
+        hooked: None,
     })
 }

@@ -94,6 +94,9 @@ destructor_core = function_type (I32 ∷ []) []
 abbrev initialize_core : FuncType
 initialize_core = function_type [] []
 
+abbrev hook_core : FuncType
+hook_core = function_type (I32 ∷ []) []
+
 -- an export with a role, unless it is a memory, is a function
 role_offered : (w : ComponentWorld) (m : ValidatedModule) (name : List ℕ) (role : WorldExport) → memory_of (name, role) ≡ None → IsExportRole w role → FitsExport w.resolve (items_of w) m (name, role) → OffersFunction m name
 role_offered w m name (exports.WorldFunc (keys.Name text) function abi) none r h =
@@ -111,6 +114,7 @@ role_offered w m name exports.GeneralPurposeImportRealloc none r h = (realloc_co
 role_offered w m name exports.GeneralPurposeExportRealloc none r h = (realloc_core, h.offered ∙ sym h.fits)
 role_offered w m name exports.ReallocForAdapter none r h = (realloc_core, h.offered ∙ sym h.fits)
 role_offered w m name exports.Initialize none r h = (initialize_core, h.offered ∙ sym h.fits)
+role_offered w m name exports.WasmTaskHook none r h = (hook_core, h.offered ∙ sym h.fits)
 role_offered w m name (exports.Memory type) none r h = absurd (none-some (name, type) (sym none))
 role_offered w m name role none r h = absurd r
 

@@ -1,5 +1,5 @@
 -- The options that are written for a lowering or a lift are those of the link table, and what is missing is a cause.
-use Rattle.std.proofs.Common.{◌≡◌, ◌∙◌, ℕ, ◌<◌, List, [], ◌∷◌, ◌++◌, refl, sym, ap, subst, Some, None, Option, Bool, true, false, ◌&&◌, not, is_some, true≢false, IsTrue, IsSome, IfSome, Result, Ok, Err, inl}
+use Rattle.std.proofs.Common.{◌≡◌, ◌∙◌, ℕ, ◌<◌, List, [], ◌∷◌, ◌++◌, refl, sym, ap, subst, Some, None, Option, Bool, true, false, ◌&&◌, not, is_some, true≢false, IsTrue, IsSome, IfSome, Result, Ok, Err}
 use Rattle.std.specs.List.{AllZip, AllByRecursion}
 use Rattle.std.specs.Option.{option_map}
 use Rattle.comp_bytes.proofs.ItemIndices.{in_range}
@@ -24,7 +24,8 @@ use Rattle.comp_terms.specs.Terms as terms
 use Rattle.std.specs.Result.{IsErrAnd, IfErr}
 use Rattle.comp_items.proofs.Kept.{Longer, instance-kept, exported-kept, options-kept}
 use Rattle.core_options.specs.Causes.{IsListRefusal, IsOptionRefusal}
-use Rattle.core_options.specs.MainOptions.{export_ref_of, IsInstanceExport, IsMemoryIf, IsAliasOf, IsAliasIf, IsReallocOf, IsReallocIf, AreOptionSources, AreUserInstances, NameOptions}
+use Rattle.core_options.specs.declared.hooked.HookedExports.{HookedExports}
+use Rattle.core_options.specs.MainOptions.{export_ref_of, IsInstanceExport, IsMemoryIf, IsAliasOf, IsAliasIf, IsReallocOf, IsReallocIf, IsReallocSource, AreOptionSources, AreUserInstances, AreHooked, NameOptions}
 use Rattle.core_options.specs.declared.modules.InstanceExport.{InstanceExport}
 use Rattle.core_options.specs.declared.modules.UserInstances.{UserInstances}
 use Rattle.core_options.specs.declared.options.OptionSources.{OptionSources}
@@ -153,6 +154,7 @@ module _ (w : ComponentWorld) (ds : List Def) (set : ℕ) (memory realloc : Opti
   option_refused place faults.TlsTypes h = absurd h
   option_refused place (faults.NotYetMade adapter name) h = absurd h
   option_refused place (faults.LaterExport interface used) h = absurd h
+  option_refused place (faults.InstanceKind other) h = absurd h
   option_refused place (faults.NoMemory of) h = by (needs set 1) memory refl m h.0
     where
       by : (b : Bool) (memory : Option ℕ) → needs set 1 ≡ b → (IsTrue b → IsMemoryIf ds (main_memory w) memory) → IsTrue (b && not (is_some memory)) → IsTrue (needs set 1) × (memory_of_main w.main ≡ None) × (of ≡ place)
@@ -185,16 +187,18 @@ alias_kept w old new g None None h = tt
 alias_kept w old new g (Some e) None h = absurd h
 alias_kept w old new g None (Some index) h = absurd h
 
--- so does an export of an instance
-pub instance_export_kept : {w : ComponentWorld} {old new : List Def} {e : InstanceExport} → Longer old new → IsInstanceExport w old e → IsInstanceExport w new e
-instance_export_kept g h = record { number = h.number; exporting = h.exporting; made = instance-kept g h.made; listed = h.listed; same = h.same; offered = h.offered }
+-- so does what calls have as their realloc
+pub realloc_source_kept : (w : ComponentWorld) (old new : List Def) → Longer old new → (e : Option InstanceExport) → IfSome e (IsReallocSource w old) → IfSome e (IsReallocSource w new)
+realloc_source_kept w old new g None h = tt
+realloc_source_kept w old new g (Some e) h = record { exported = h.exported; of = instance-kept g h.of; function = h.function; aliased = h.aliased; named = h.named }
 
-pub export_if_kept : (w : ComponentWorld) (old new : List Def) → Longer old new → (e : Option InstanceExport) → IfSome e (IsInstanceExport w old) → IfSome e (IsInstanceExport w new)
-export_if_kept w old new g None h = tt
-export_if_kept w old new g (Some e) h = instance_export_kept g h
+pub option_sources_kept : {w : ComponentWorld} {old new : List Def} {needed : ℕ} {s : OptionSources} → Longer old new → AreOptionSources w old needed s → AreOptionSources w new needed s
+option_sources_kept {w} {old} {new} {needed} {s} g h = record { memory = memory_kept old new g (main_memory w) s.memory h.memory; realloc = λ is. realloc_source_kept w old new g s.realloc (h.realloc is) }
 
-pub option_sources_kept : {w : ComponentWorld} {old new : List Def} {s : OptionSources} → Longer old new → AreOptionSources w old s → AreOptionSources w new s
-option_sources_kept {w} {old} {new} {s} g h = record { memory = memory_kept old new g (main_memory w) s.memory h.memory; realloc = export_if_kept w old new g s.realloc h.realloc }
+-- the fixup's instance stays what it is
+pub hooked_kept : {w : ComponentWorld} {old new : List Def} → Longer old new → (hooked : Option HookedExports) → AreHooked w old hooked → AreHooked w new hooked
+hooked_kept g None h = h
+hooked_kept g (Some hooked) h = (instance-kept g h.0, h.1)
 
 pub instances_kept : {w : ComponentWorld} {old new : List Def} {u : UserInstances} → Longer old new → AreUserInstances w old u → AreUserInstances w new u
 instances_kept {w} {old} {new} {u} g h = record {
@@ -223,12 +227,12 @@ when_map : (b : Bool) (e : Option InstanceExport) → option_map export_ref_of (
 when_map true e = refl
 when_map false e = refl
 
-pub when_kept : (b : Bool) (e wanted : Option InstanceExport) (P : InstanceExport → Type 0) → wanted ≡ when b e → IfSome e P → IfSome wanted P
-when_kept b e wanted P is h = subst (λ o. IfSome o P) (sym is) (by b)
+pub when_kept : (b : Bool) (e wanted : Option InstanceExport) (P : InstanceExport → Type 0) → wanted ≡ when b e → (IsTrue b → IfSome e P) → IfSome wanted P
+when_kept b e wanted P is h = subst (λ o. IfSome o P) (sym is) (by b h)
   where
-    by : (b : Bool) → IfSome (when b e) P
-    by true = h
-    by false = tt
+    by : (b : Bool) → (IsTrue b → IfSome e P) → IfSome (when b e) P
+    by true g = g refl
+    by false g = tt
 
 -- what is there as an export is there
 pub some_export : (e : Option InstanceExport) → IsSome (option_map export_ref_of e) → IsSome e
@@ -239,25 +243,18 @@ pub some_mapped : (e : Option InstanceExport) → IsSome e → IsSome (option_ma
 some_mapped (Some e) h = refl
 some_mapped None h = absurd (true≢false (sym h))
 
--- an alias of an export is one of the realloc of calls, where it is needed
-realloc_of_alias : (w : ComponentWorld) (ds : List Def) (e : Option targets.ExportRef) (index : Option ℕ) → IsAliasIf w ds e index → IsReallocIf w ds e index
-realloc_of_alias w ds (Some e) (Some index) h = record { exported = h.exported; is = h.is; function = h.function; named = inl h.named }
-realloc_of_alias w ds None None h = tt
-realloc_of_alias w ds (Some e) None h = absurd h
-realloc_of_alias w ds None (Some index) h = absurd h
-
 -- the options that are listed, and what they name
 pub record AreListed (w : ComponentWorld) (ds : List Def) (set : ℕ) (memory realloc : Option ℕ) (own : Option targets.ExportRef) : Type 0 where
   pub memory_is : IsTrue (needs set 1) → IsMemoryIf ds (main_memory w) memory
   pub realloc_is : IsTrue (needs set 2) → IsReallocIf w ds own realloc
 
 pub aliases_of : (w : ComponentWorld) (mid ds : List Def) → Longer mid ds → (set : ℕ) (memory realloc : Option ℕ) (own wanted : Option InstanceExport) →
-    IsMemoryIf mid (main_memory w) memory → wanted ≡ when (needs set 2) own → IsAliasIf w ds (option_map export_ref_of wanted) realloc → AreListed w ds set memory realloc (option_map export_ref_of own)
+    IsMemoryIf mid (main_memory w) memory → wanted ≡ when (needs set 2) own → IsReallocIf w ds (option_map export_ref_of wanted) realloc → AreListed w ds set memory realloc (option_map export_ref_of own)
 aliases_of w mid ds g set memory realloc own wanted m is r = record {
   memory_is = λ needed. memory_kept mid ds g (main_memory w) memory m;
   realloc_is = λ needed.
-      let all : IsAliasIf w ds (when (needs set 2) (option_map export_ref_of own)) realloc = subst (λ o. IsAliasIf w ds o realloc) (ap (option_map export_ref_of) is ∙ when_map (needs set 2) own) r in
-      realloc_of_alias w ds (option_map export_ref_of own) realloc (subst (λ b. IsAliasIf w ds (when b (option_map export_ref_of own)) realloc) needed all);
+      let all : IsReallocIf w ds (when (needs set 2) (option_map export_ref_of own)) realloc = subst (λ o. IsReallocIf w ds o realloc) (ap (option_map export_ref_of) is ∙ when_map (needs set 2) own) r in
+      subst (λ b. IsReallocIf w ds (when b (option_map export_ref_of own)) realloc) needed all;
 }
 
 pub named_for : (w : ComponentWorld) (ds : List Def) (set : ℕ) (memory realloc : Option ℕ) (own : Option targets.ExportRef) (e : StringEncoding) (written : List CanonicalOption) → AreListed w ds set memory realloc own → written ≡ options_of set e memory realloc →

@@ -31,6 +31,7 @@ among_more w some all few more imports exports faults.TlsTypes h = h
 among_more w some all few more imports exports (faults.TooMany excess) h = h
 among_more w some all few more imports exports (faults.NotYetMade adapter name) h = h
 among_more w some all few more imports exports (faults.LaterExport interface used) h = h
+among_more w some all few more imports exports (faults.InstanceKind other) h = h
 among_more w some all few more imports exports (faults.NoMemory place) l = record { needed = either_more w 1 some all few more imports exports place l.needed; none = l.none }
 among_more w some all few more imports exports (faults.NoRealloc place) (inl l) = inl (record { needed = lowering_more w 2 some all imports place l.needed; none = l.none })
 among_more w some all few more imports exports (faults.NoRealloc place) (inr l) = inr (record { needed = lift_more w 2 few more exports place l.needed; none = l.none })
@@ -63,6 +64,7 @@ one_import_refused w i own set place needed named none (faults.NoRealloc of) h =
 one_import_refused w i own set place needed named none (faults.NoEncoding of) h = absurd h
 one_import_refused w i own set place needed named none (faults.NotYetMade adapter name) h = absurd h
 one_import_refused w i own set place needed named none (faults.LaterExport interface used) h = absurd h
+one_import_refused w i own set place needed named none (faults.InstanceKind other) h = absurd h
 
 pub one_export_refused : (w : ComponentWorld) (r : RequiredFunction) (set : ℕ) (place : List ℕ) → set ≡ lift_needs w r → place ≡ r.function → (e : StateFault) → IsOptionRefusal w set (lift_realloc w r.of) place e →
     IsCauseAmong w [] (r ∷ []) e
@@ -78,6 +80,7 @@ one_export_refused w r set place needed named (faults.NoRealloc of) h =
 one_export_refused w r set place needed named (faults.NoEncoding of) h = absurd h
 one_export_refused w r set place needed named (faults.NotYetMade adapter name) h = absurd h
 one_export_refused w r set place needed named (faults.LaterExport interface used) h = absurd h
+one_export_refused w r set place needed named (faults.InstanceKind other) h = absurd h
 
 -- an import of main's memory that is refused
 pub memory_import_refused : (w : ComponentWorld) (i : UserImport) (path : List ℕ) → is_main_memory i.core.role ≡ true → path ≡ field_path i.core.module_name i.core.field → (e : StateFault) → IsMemoryRefusal w path e → IsCauseAmong w (i ∷ []) [] e
@@ -89,3 +92,4 @@ memory_import_refused w i path is named (faults.NoRealloc place) h = absurd h
 memory_import_refused w i path is named (faults.NoEncoding place) h = absurd h
 memory_import_refused w i path is named (faults.NotYetMade adapter name) h = absurd h
 memory_import_refused w i path is named (faults.LaterExport interface used) h = absurd h
+memory_import_refused w i path is named (faults.InstanceKind other) h = absurd h

@@ -2,8 +2,8 @@
 -- no memory or no realloc, or an import of main's memory finds none (Canonical ABI:
 -- `string-encoding`, `memory`, `realloc`), where modules don't agree on the type of the thread-local
 -- base, which one cell has to hold, where an adapter is instantiated before one that it names, where
--- an interface is exported before one that it uses, and where a count passes 32 bits (core standard,
--- binary format: vectors).
+-- an interface is exported before one that it uses, where two instances from which the fixup imports
+-- have one name, and where a count passes 32 bits (core standard, binary format: vectors).
 use Rattle.std.specs.Prelude.{◌≡◌, ◌≤◌, ◌^◌, ◌⊎◌, ◌&&◌, ℕ, true, List, Option, Some, None, is_some, not, if◌then◌else◌, Contains, IsSome, IsTrue}
 use Rattle.std.specs.List.{AllByRecursion}
 use Rattle.comp_roles.specs.CoreImports.{CoreImport}
@@ -35,6 +35,9 @@ use Rattle.comp_links.specs.Links.{lower_needs, role_realloc, lift_needs, lift_r
 use Rattle.core_options.specs.MainOptions.{HasLowerOptions, HasLiftOptions}
 use Rattle.comp_links.specs.Roles.{needs_encoding, import_encoding, is_main_memory, export_encoding, field_path}
 use Rattle.comp_links.specs.Supplied.{IsSuppliedImport}
+use Rattle.task_wrappers.specs.TaskWrappers.{task_wrappers}
+use Rattle.world_shims.specs.Refusals.{fixup_sources, ShareName}
+use Rattle.world_shims.specs.WorldShims.{shims_of, initialize_of, hook_of}
 
 -- a fault of the builder, as one of the state
 abbrev pub of_build : BuildFault → StateFault
@@ -120,6 +123,10 @@ pub record ExportsLater (w : ComponentWorld) (interface used : List ℕ) : Type 
   pub named : IsExportName w id interface
   pub used_named : IsExportName w other used
 
+-- two instances from which the fixup imports, and which are not one, have this name
+abbrev pub SharesFixupName : ComponentWorld → List ℕ → Type 0
+SharesFixupName w name = ShareName (fixup_sources (shims_of w) (initialize_of w) (hook_of w) (task_wrappers w)) name
+
 -- the cause of a fault, where these imports are given what they need and these functions are lifted
 abbrev pub IsCauseAmong : ComponentWorld → List UserImport → List RequiredFunction → StateFault → Type 0
 IsCauseAmong w imports functions faults.Memory = Unit {0}
@@ -129,6 +136,7 @@ IsCauseAmong w imports functions (faults.NoMemory place) = LacksMemory w imports
 IsCauseAmong w imports functions (faults.NoRealloc place) = LacksRealloc w imports functions place
 IsCauseAmong w imports functions (faults.NotYetMade adapter name) = IsNotYetMade w adapter name
 IsCauseAmong w imports functions (faults.LaterExport interface used) = ExportsLater w interface used
+IsCauseAmong w imports functions (faults.InstanceKind name) = SharesFixupName w name
 IsCauseAmong w imports functions (faults.TooMany excess) = 2 ^ 32 ≤ excess
 
 -- the cause of a fault where the options of a set are listed for the function of a name
@@ -148,6 +156,7 @@ IsOptionRefusal w set realloc name (faults.NoRealloc place) = IsTrue (needs set 
 IsOptionRefusal w set realloc name (faults.NoEncoding place) = ⊥
 IsOptionRefusal w set realloc name (faults.NotYetMade adapter other) = ⊥
 IsOptionRefusal w set realloc name (faults.LaterExport interface used) = ⊥
+IsOptionRefusal w set realloc name (faults.InstanceKind other) = ⊥
 
 -- the cause of a fault where main's memory is looked up for the import of this path
 abbrev pub IsMemoryRefusal : ComponentWorld → List ℕ → StateFault → Type 0

@@ -1,2 +1,3 @@
+pub mod Hooked
 pub mod MainOptions
 pub mod Causes

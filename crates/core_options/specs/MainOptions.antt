@@ -1,6 +1,6 @@
 -- What the options of lowerings and lifts name (Canonical ABI: `canon lower`, `canon lift` and
 -- their options): exports of the instances of user modules.
-use Rattle.std.specs.Prelude.{◌≡◌, ℕ, List, [], Option, Some, None, IsTrue, IfSome, IsSome, slice_get}
+use Rattle.std.specs.Prelude.{◌≡◌, ◌+◌, ◌⊎◌, ℕ, List, [], ◌∷◌, Option, Some, None, Contains, IsTrue, IfSome, IsSome, slice_get}
 use Rattle.std.specs.List.{AllZip}
 use denote.Ref.{Bor}
 use Rattle.standard_kinds.specs.declared.kinds.ExportKind.TheVariants as kinds
@@ -32,13 +32,20 @@ use Rattle.comp_links.specs.Lists.{IsOriginOf, RequiredFunction}
 use Rattle.comp_trees.specs.Trees.{Origin, FunctionTree}
 use Rattle.comp_links.specs.Links.{task_return, set_wait, set_poll, error_new, error_message, stream_read, stream_write, future_read, future_write, options_in, lower_needs, role_realloc, lift_needs, lift_realloc}
 use Rattle.comp_terms.specs.Terms.{CoreExport, TermOption, IsImportedFunction, IsInstanceOf, IsExported, IsOption}
-use Rattle.comp_terms.specs.Planned.{IsItemFor, IsTypeOf, IsExportFor, memory_from, main_memory, IsReallocFor, IsOptionFor}
+use Rattle.comp_terms.specs.Generated.{fixup_number}
+use Rattle.comp_terms.specs.Planned.{IsItemFor, IsTypeOf, IsExportFor, IsCalledFor, memory_from, main_memory, IsReallocFor, IsOptionFor}
 use Rattle.shim_plan.specs.Needed.{function_options, function_encoding}
 use Rattle.shim_plan.specs.declared.memory_functions.MemoryFunction.{MemoryFunction}
 use Rattle.shim_plan.specs.declared.memory_functions.MemoryFunction.TheVariants as functions
 use Rattle.core_options.specs.declared.fault.StateFault.{StateFault}
 use Rattle.core_options.specs.declared.fault.StateFault.TheVariants as faults
+use Rattle.core_options.specs.declared.hooked.HookedExports.{HookedExports}
 use Rattle.core_options.specs.declared.modules.UserModule.{UserModule}
+use Rattle.fixup_modules.specs.Sections.{hook_name}
+use Rattle.fixup_modules.specs.declared.wrappers.WrapperExport.{WrapperExport}
+use Rattle.task_wrappers.specs.TaskWrappers.{task_wrappers}
+use Rattle.task_wrappers.specs.declared.wrappers.TaskWrapper.{TaskWrapper}
+use Rattle.world_shims.specs.WorldShims.{hook_of, instance_of_user}
 use Rattle.core_options.specs.declared.modules.InstanceExport.{InstanceExport}
 use Rattle.core_options.specs.declared.modules.UserInstances.{UserInstances}
 use Rattle.core_options.specs.declared.options.OptionSources.{OptionSources}
@@ -111,6 +118,7 @@ pub record IsInstanceExport (w : ComponentWorld) (ds : List Def) (e : InstanceEx
   pub listed : slice_get (user_modules w) number ≡ Some exporting
   pub same : exporting.of ≡ user_of e.of
   pub offered : OffersFunction exporting.found e.name.now
+  pub itself : e.alias.now ≡ e.name.now
 
 -- an export of main, or of the module whose instance is the other one, by what a look-up across modules found
 abbrev pub instance_for : CustomModule → ℕ → ℕ → ℕ
@@ -118,7 +126,7 @@ instance_for named.Main main instance = main
 instance_for (named.Adapter name) main instance = instance
 
 abbrev pub placed_export : ℕ → ℕ → CustomModule × Bor (List ℕ) → InstanceExport
-placed_export main instance p = record { instance = instance_for p.0 main instance; of = p.0; name = p.1 }
+placed_export main instance p = record { instance = instance_for p.0 main instance; of = p.0; name = p.1; alias = p.1; debug = p.1 }
 
 -- ---- aliases
 
@@ -128,6 +136,33 @@ pub record IsAliasOf (w : ComponentWorld) (ds : List Def) (index : ℕ) (e : Exp
   pub is : IsExported ds index exported
   pub function : exported.kind ≡ kinds.Func
   pub named : IsExportFor w exported e
+
+-- the index is an alias of what is called for an export
+pub record IsCalledOf (w : ComponentWorld) (ds : List Def) (index : ℕ) (e : ExportRef) : Type 0 where
+  pub exported : CoreExport
+  pub is : IsExported ds index exported
+  pub function : exported.kind ≡ kinds.Func
+  pub named : IsCalledFor w exported e
+
+-- the same, where there is an export
+abbrev pub IsCalledIf : ComponentWorld → List Def → Option ExportRef → Option ℕ → Type 0
+IsCalledIf w ds None None = Unit {0}
+IsCalledIf w ds (Some e) (Some index) = IsCalledOf w ds index e
+IsCalledIf w ds e index = ⊥
+
+-- what the wrappers of a world are exported as, from this place on
+abbrev pub wrapper_exports : ℕ → List TaskWrapper → List WrapperExport
+wrapper_exports place [] = []
+wrapper_exports place (t ∷ ts) = record { instance = instance_of_user t.of; name = t.name; export = hook_name place } ∷ wrapper_exports (place + 1) ts
+
+-- the fixup's instance, with what it exports, where there is one
+abbrev pub AreHooked : ComponentWorld → List Def → Option HookedExports → Type 0
+AreHooked w ds None = task_wrappers w ≡ []
+AreHooked w ds (Some h) = IsInstanceOf ds h.instance (fixup_number w) × (h.wrappers ≡ wrapper_exports 0 (task_wrappers w))
+
+-- the hook is called round an export, or main has none
+abbrev pub IsCalledExport : ComponentWorld → ExportRef → Type 0
+IsCalledExport w e = (hook_of w ≡ None) ⊎ ((t : TaskWrapper) × Contains (task_wrappers w) t × (module_of t.of ≡ e.of) × (t.name ≡ e.name))
 
 -- the memory that main exports first
 abbrev pub exported_memory : ComponentWorld → Option CoreExport
@@ -153,10 +188,18 @@ IsReallocIf w ds None None = Unit {0}
 IsReallocIf w ds (Some e) (Some index) = IsReallocOf w ds index e
 IsReallocIf w ds e index = ⊥
 
--- main's memory, and the realloc, where there are any
-pub record AreOptionSources (w : ComponentWorld) (ds : List Def) (s : OptionSources) : Type 0 where
+-- the instance exports what calls have as their realloc for this export
+pub record IsReallocSource (w : ComponentWorld) (ds : List Def) (e : InstanceExport) : Type 0 where
+  pub exported : CoreExport
+  pub of : IsInstanceOf ds e.instance exported.of
+  pub function : exported.kind ≡ kinds.Func
+  pub aliased : exported.name ≡ e.alias.now
+  pub named : IsReallocFor w exported (export_ref_of e)
+
+-- main's memory, if there is one, and the realloc, where this set of options needs it and there is one
+pub record AreOptionSources (w : ComponentWorld) (ds : List Def) (needed : ℕ) (s : OptionSources) : Type 0 where
   pub memory : IsMemoryIf ds (main_memory w) s.memory
-  pub realloc : IfSome s.realloc (IsInstanceExport w ds)
+  pub realloc : IsTrue (needs needed realloc_bit) → IfSome s.realloc (IsReallocSource w ds)
 
 -- the options name what those of the target do, by terms between them
 pub record NameOptions (w : ComponentWorld) (ds : List Def) (written : List CanonicalOption) (options : List TargetOption) : Type 0 where

@@ -41,6 +41,10 @@ pub enum StateFault {
     /// it. Both are named by the keys at which they are exported, with their whole version.
     #[error("E11 LaterExport interface={interface} used={used}")]
     LaterExport { interface: Text, used: Text },
+    /// Two instances from which the fixup imports have this name: an adapter that is named as another
+    /// one of them, and exports a function that is called with main's task hook round it.
+    #[error("E12 InstanceKind name={name}")]
+    InstanceKind { name: Text },
     /// A count or a size would pass 2^32 - 1.
     #[error("E16 TooMany excess={excess}")]
     TooMany { excess: Excess },

@@ -4,7 +4,7 @@
 #![tactic(auto, using(comp_items::proofs::Extending::extends_none, comp_items::proofs::Extending::extends_same, comp_items::proofs::Extending::extends_then))]
 
 ghost use Rattle.std.specs.Prelude.{◌≡◌, [], List, ℕ, Some, IfOk, IfErr, IfSome, OnOk, slice_get};
-ghost use Rattle.std.specs.Option.{option_map};
+ghost use Rattle.std.specs.Option.{option_copied, option_map};
 ghost use Rattle.comp_bytes.specs.declared.def.Def.{Def};
 ghost use Rattle.comp_items.specs.Items.{Extends};
 ghost use Rattle.comp_links.specs.Links.{lift_realloc, realloc_of, lower_realloc};
@@ -13,9 +13,10 @@ ghost use Rattle.comp_links.specs.Modules.{module_found, user_modules};
 ghost use Rattle.comp_terms.specs.Rules.{Grows};
 ghost use Rattle.comp_terms.specs.Terms.{IsInstanceOf};
 ghost use Rattle.comp_worlds.specs.Encodable.{IsEncodable};
-ghost use Rattle.core_options.specs.MainOptions.{user_of, module_named, placed_export, export_ref_of, IsInstanceExport, IsAliasOf, IsAliasIf};
+ghost use Rattle.core_options.specs.MainOptions.{user_of, module_named, placed_export, export_ref_of, IsInstanceExport, IsAliasOf, IsAliasIf, IsReallocSource, IsReallocIf, AreHooked, IsCalledExport, IsCalledOf, IsCalledIf};
 ghost use Rattle.root_imports.specs.RootScopes.{IsRefusal};
 
+use crate::hooked::{HookedExports, hooked_export};
 use byte_encoding::BuildFault;
 use comp_lists::{Keyed, Text};
 use comp_worlds::{ComponentWorld, CustomModule, ValidatedModule};
@@ -30,21 +31,28 @@ pub struct UserModule<'a> {
     pub found: &'a ValidatedModule,
 }
 
-/// A function that the instance of a user module exports.
+/// A function that a user module exports, and the instance that exports it, or what is called for it.
 #[derive(Clone, Copy)]
 pub struct InstanceExport<'a> {
-    /// The instance of the module.
+    /// That of the module, of the shims or of the fixup.
     pub instance: u32,
     pub of: CustomModule<'a>,
     pub name: &'a str,
+    /// The name under which the instance exports it.
+    pub alias: &'a str,
+    /// The name for debuggers of an alias of it.
+    pub debug: &'a str,
 }
 
-/// The instances of all user modules, main's, and those of the adapters by their names; and main's memory.
+/// The instances of all user modules, main's, and those of the adapters by their names; main's memory; and
+/// what calls main's task hook round what they export.
 pub struct UserInstances {
     pub main: u32,
     /// The alias of main's memory, if it has one.
     pub memory: Option<u32>,
     pub adapters: Keyed<Text, u32>,
+    /// The instance of the fixup, where it is there.
+    pub hooked: Option<HookedExports>,
 }
 
 impl Drop for UserInstances {
@@ -53,6 +61,7 @@ impl Drop for UserInstances {
             main: _,
             memory: _,
             adapters: _,
+            hooked: _,
         } = self;
     }
 }
@@ -71,7 +80,9 @@ pub fn alias_of(
         (export_ref_of export.entry)) }
     ensures cause { IfErr result IsRefusal }
 {
-    let index = root.items.core_function(export.instance, export.name)?;
+    let index = root
+        .items
+        .named_function(export.debug, export.instance, export.alias)?;
     Ok(index)
 }
 
@@ -98,6 +109,81 @@ pub fn alias_if(
     }
 }
 
+/// The alias of what calls have as their realloc, if there is one.
+pub(crate) fn alias_of_realloc(
+    root: &mut RootScope<'_, ComponentWorld>,
+    export: Option<InstanceExport<'_>>,
+) -> Result<Option<u32>, BuildFault>
+    requires made { IfSome export (IsReallocSource root.old.world.now root.old.items.defs) }
+    ensures same { root.new ≡ record root.old { items = root.new.items } }
+    ensures extends { Extends root.old.items root.new.items }
+    ensures grows { OnOk result
+        (Grows root.old.world.now root.old.items.defs root.new.items.defs []) }
+    ensures alias { IfOk result (λ index. IsReallocIf root.old.world.now root.new.items.defs
+        (option_map export_ref_of export.entry) index) }
+    ensures cause { IfErr result IsRefusal }
+{
+    let Some(export) = export else {
+        return Ok(None);
+    };
+    let realloc = root
+        .items
+        .named_function(export.debug, export.instance, export.alias)?;
+    Ok(Some(realloc))
+}
+
+/// The alias of what is called for a function that an instance exports: where main has a task hook, what the fixup's
+/// instance exports for it.
+pub fn alias_of_called(
+    root: &mut RootScope<'_, ComponentWorld>,
+    hooked: Option<&HookedExports>,
+    export: InstanceExport<'_>,
+) -> Result<u32, BuildFault>
+    requires made { IsInstanceExport root.old.world.now root.old.items.defs export }
+    requires hooked { AreHooked root.old.world.now root.old.items.defs (option_copied hooked) }
+    requires called { IsCalledExport root.old.world.now (export_ref_of export) }
+    ensures same { root.new ≡ record root.old { items = root.new.items } }
+    ensures extends { Extends root.old.items root.new.items }
+    ensures grows { OnOk result
+        (Grows root.old.world.now root.old.items.defs root.new.items.defs []) }
+    ensures called { IfOk result (λ index. IsCalledOf root.old.world.now root.new.items.defs index
+        (export_ref_of export.entry)) }
+    ensures cause { IfErr result IsRefusal }
+{
+    let called = hooked_export(hooked, export);
+    let alias = root
+        .items
+        .named_function(called.debug, called.instance, called.alias)?;
+    Ok(alias)
+}
+
+/// The same, if an export is given.
+pub fn alias_if_called(
+    root: &mut RootScope<'_, ComponentWorld>,
+    hooked: Option<&HookedExports>,
+    export: Option<InstanceExport<'_>>,
+) -> Result<Option<u32>, BuildFault>
+    requires made { IfSome export (IsInstanceExport root.old.world.now root.old.items.defs) }
+    requires hooked { AreHooked root.old.world.now root.old.items.defs (option_copied hooked) }
+    requires called { IfSome export
+        (λ e. IsCalledExport root.old.world.now (export_ref_of e)) }
+    ensures same { root.new ≡ record root.old { items = root.new.items } }
+    ensures extends { Extends root.old.items root.new.items }
+    ensures grows { OnOk result
+        (Grows root.old.world.now root.old.items.defs root.new.items.defs []) }
+    ensures called { IfOk result (λ index. IsCalledIf root.old.world.now root.new.items.defs
+        (option_map export_ref_of export.entry) index) }
+    ensures cause { IfErr result IsRefusal }
+{
+    match export {
+        Some(export) => {
+            let alias = alias_of_called(root, hooked, export)?;
+            Ok(Some(alias))
+        }
+        None => Ok(None),
+    }
+}
+
 /// The export, where a look-up across modules found it: `main` and `instance` are the instances of
 /// main and of the module that was asked for.
 fn found_export<'a>(
@@ -112,11 +198,15 @@ fn found_export<'a>(
             instance: main,
             of: CustomModule::Main,
             name,
+            alias: name,
+            debug: name,
         }),
         Some((CustomModule::Adapter(adapter), name)) => Some(InstanceExport {
             instance,
             of: CustomModule::Adapter(adapter),
             name,
+            alias: name,
+            debug: name,
         }),
         None => None,
     }

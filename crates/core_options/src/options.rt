@@ -21,7 +21,7 @@ ghost use Rattle.root_imports.specs.RootScopes.{IsRefusal};
 ghost use Rattle.standard_kinds.specs.declared.kinds.ExportKind.TheVariants as kinds;
 
 use crate::fault::StateFault;
-use crate::modules::{InstanceExport, alias_if};
+use crate::modules::{InstanceExport, alias_of_realloc};
 use bitflags::Flags;
 use byte_encoding::BuildFault;
 use comp_bytes::CanonicalOption;
@@ -147,7 +147,7 @@ pub fn options_for(
     encoding: StringEncoding,
 ) -> Result<Seq<CanonicalOption>, StateFault>
     requires valid { IsEncodable root.old.world.now }
-    requires sources { AreOptionSources root.old.world.now root.old.items.defs sources.now }
+    requires sources { AreOptionSources root.old.world.now root.old.items.defs needed.0 sources.now }
     ensures same { root.new ≡ record root.old { items = root.new.items } }
     ensures extends { Extends root.old.items root.new.items }
     ensures grows { OnOk result
@@ -163,7 +163,7 @@ pub fn options_for(
         (option_map export_ref_of sources.now.realloc) place.now) }
 {
     let wanted = realloc_if_needed(needed, sources.realloc);
-    let realloc = alias_if(root, wanted)?;
+    let realloc = alias_of_realloc(root, wanted)?;
     let options = list_options(
         root.items.allocator(),
         place,

@@ -2,7 +2,7 @@
 -- own.)
 use Rattle.std.specs.Prelude.{ℕ, List, codes, Option, Some, None, if◌then◌else◌}
 use Rattle.std.specs.Str.{bytes_eq}
-use Rattle.explanations.specs.declared.texts.TheConstants.{E1, E3, E5, E6, E7, E8, E11, E15, E16, C1, C2, C4, C5, P2, P3, P4, P5, P6, P7, P8, P9, P10, P11, P12, P14, R1, F2, F5, F6, F7, F8, F9, F10, F11, F12, F13, F14, F15, L1, L2, L3, L4, L5, L6, L7, L8, L9, L10, L11, L12}
+use Rattle.explanations.specs.declared.texts.TheConstants.{E1, E3, E5, E6, E7, E8, E11, E12, E15, E16, C1, C2, C4, C5, P2, P3, P4, P5, P6, P7, P8, P9, P10, P11, P12, P14, R1, F2, F5, F6, F7, F8, F9, F10, F11, F12, F13, F14, F15, L1, L2, L3, L4, L5, L6, L7, L8, L9, L10, L11, L12}
 
 abbrev pub or_else : {A : Type 0} → Option A → Option A → Option A
 or_else (Some x) other = Some x
@@ -18,13 +18,14 @@ of_encoding code =
     else (if bytes_eq code (codes "E7") then Some E7.now
     else (if bytes_eq code (codes "E8") then Some E8.now
     else (if bytes_eq code (codes "E11") then Some E11.now
+    else (if bytes_eq code (codes "E12") then Some E12.now
     else (if bytes_eq code (codes "E15") then Some E15.now
     else (if bytes_eq code (codes "E16") then Some E16.now
     else (if bytes_eq code (codes "C1") then Some C1.now
     else (if bytes_eq code (codes "C2") then Some C2.now
     else (if bytes_eq code (codes "C4") then Some C4.now
     else (if bytes_eq code (codes "C5") then Some C5.now
-    else None))))))))))))
+    else None)))))))))))))
 
 -- the codes of modules, their records and their packages
 abbrev pub of_lowering : List ℕ → Option (List ℕ)

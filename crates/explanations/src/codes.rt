@@ -4,9 +4,9 @@ ghost use Rattle.std.specs.Prelude.{◌≡◌, option_map};
 ghost use Rattle.explanations.specs.Codes.{of_encoding, of_lowering, of_fitting, of_warning, explanation};
 
 use crate::texts::{
-    C1, C2, C4, C5, E1, E3, E5, E6, E7, E8, E11, E15, E16, F2, F5, F6, F7, F8, F9, F10, F11, F12,
-    F13, F14, F15, L1, L2, L3, L4, L5, L6, L7, L8, L9, L10, L11, L12, P2, P3, P4, P5, P6, P7, P8,
-    P9, P10, P11, P12, P14, R1,
+    C1, C2, C4, C5, E1, E3, E5, E6, E7, E8, E11, E12, E15, E16, F2, F5, F6, F7, F8, F9, F10, F11,
+    F12, F13, F14, F15, L1, L2, L3, L4, L5, L6, L7, L8, L9, L10, L11, L12, P2, P3, P4, P5, P6, P7,
+    P8, P9, P10, P11, P12, P14, R1,
 };
 
 /// The codes of the encoder, and of components that are read.
@@ -21,6 +21,7 @@ fn encoding(code: &str) -> Option<&'static str>
         "E7" => Some(E7),
         "E8" => Some(E8),
         "E11" => Some(E11),
+        "E12" => Some(E12),
         "E15" => Some(E15),
         "E16" => Some(E16),
         "C1" => Some(C1),

@@ -60,6 +60,13 @@ pub(crate) const E11: &str = "\
     Example: `E11 LaterExport interface=\"a:b/j\" used=\"a:b/i\"`\n\
     What to do: list the used one first in the record's `exports`.\n";
 
+pub(crate) const E12: &str = "\
+    E12: main has a task hook, and an adapter or a library has the name of something else that\n\
+    the fixup imports from, and a function that the hook is called round: it is named `main`,\n\
+    or, where there are shims, `actual` or `shim`: `name`.\n\
+    Example: `E12 InstanceKind name=\"main\"`\n\
+    What to do: give the adapter another name.\n";
+
 pub(crate) const E15: &str = "\
     E15: `validate` is on, and a name of the component is wrong; a code C4 or C5 follows.\n\
     Example: `E15 Output: C5 NameForm name=\"1f\"`\n\

@@ -284,6 +284,7 @@ module _ (w : ComponentWorld) where
     pub key_refused : (e : StateFault) → IsTypesRefusal w mid key e → IsCauseAmong w [] [] e
     key_refused faults.Memory r = tt
     key_refused faults.TlsTypes r = absurd r
+    key_refused (faults.InstanceKind name) r = absurd r
     key_refused (faults.TooMany excess) r = r
     key_refused (faults.LaterExport interface used) r =
         let n : ℕ = length (map (λ (r : RequiredKey). r.key) h.before ++ done) in

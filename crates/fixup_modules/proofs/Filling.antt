@@ -1,11 +1,11 @@
 -- Instances of fixups fill the shims.
-use Rattle.std.proofs.Common.{◌≡◌, ◌∙◌, ℕ, zero, suc, Bool, true, false, ◌&&◌, List, [], ◌∷◌, ◌++◌, length, map, Option, Some, None, cond, if◌then◌else◌, refl, sym, ap, subst, true≢false, append-nil, append_assoc, rules}
-use Rattle.std.specs.List.{AllZip, slice_get}
+use Rattle.std.proofs.Common.{◌≡◌, ◌∙◌, ◌+◌, ◌<◌, ℕ, zero, suc, Bool, true, false, ◌&&◌, List, [], ◌∷◌, ◌++◌, length, map, Option, Some, None, cond, if◌then◌else◌, refl, sym, ap, subst, true≢false, append-nil, append_assoc, length-append, arith, rules}
+use Rattle.std.specs.List.{AllZip, slice_get, range_with_len}
 use Rattle.std.specs.Prelude.{pos}
 use Rattle.std.specs.Int.{cast_unsigned, w32}
-use Rattle.std.proofs.lemmas.Option.{same_Some, none-some}
+use Rattle.std.proofs.lemmas.Option.{same_Some, none-some, slice_get_within}
 use Rattle.std.proofs.lemmas.List.{length-map}
-use Rattle.comp_lists.proofs.Lists.{slice_get-append, length-AllZip, AllZip-weaker}
+use Rattle.comp_lists.proofs.Lists.{slice_get-append, AllZip-weaker, AllZip-at}
 use Rattle.standard_kinds.specs.declared.kinds.ExportKind.TheVariants as kinds
 use Rattle.core_types.specs.declared.types.FuncType.{FuncType}
 use Rattle.core_types.specs.declared.types.ValType.{ValType}
@@ -24,12 +24,15 @@ use Rattle.core_runs.proofs.Instances.{segments_fill, filled_shims_forward}
 use Rattle.fixup_modules.specs.declared.instances.ImportedInstance.TheVariants as instances
 use Rattle.interned_types.specs.Interning.{interned}
 use Rattle.fixup_modules.specs.Imports.{Imported, is_kind, of_kind, count_of, entry_of, MayImport}
-use Rattle.fixup_modules.specs.Fixups.{Fixup, thunk}
-use Rattle.fixup_modules.specs.Sections.{table_name, shim_table, with_table, table_index, fill_segment, if_none, all_imported, table_of, by_calls, own_type, types_of, fixup_sections}
-use Rattle.fixup_modules.specs.Laws.{NamedShim, IsTarget, IsSupplied, FixupsFillShims, FixupsCall, call_of}
+use Rattle.fixup_modules.specs.declared.fills.Fill.{Fill}
+use Rattle.fixup_modules.specs.declared.fills.Fill.TheVariants as slots
+use Rattle.fixup_modules.specs.declared.wrappers.Wrapper.{Wrapper}
+use Rattle.fixup_modules.specs.Fixups.{Fixup, thunk, filled_by}
+use Rattle.fixup_modules.specs.Sections.{table_name, shim_table, with_table, table_index, fill_segment, if_none, all_imported, table_of, needs_own, own_type, types_of, imported_functions, types_if, function_types, bodies_of, filling, fixup_sections}
+use Rattle.fixup_modules.specs.Laws.{NamedShim, IsTarget, IsWrapperFor, IsSlotFor, IsSupplied, FixupMade, IsFilledAt, AreTargets, FixupsFillShims, FixupsCall, calls_of}
 use Rattle.fixup_modules.proofs.Named.{both, is_there, entries_grow}
 use Rattle.fixup_modules.proofs.Building.{type_kept}
-use Rattle.fixup_modules.proofs.Making.{segments_if, entities_of, fixup_parts, parts_are, own_if, frame_of, made_with, instance_is, failed, starts}
+use Rattle.fixup_modules.proofs.Making.{segments_if, entities_of, fixup_parts, parts_are, own_if, IsWrapper, functions_are, frame_of, HasFunctions, made_with, has_functions, instance_is, failed, range_at, after_those, starts}
 
 -- ---- types that are the same are one
 
@@ -171,13 +174,12 @@ imports_grow f = by f.fills
     by [] = ([], sym (append-nil f.imported.entries))
     by (x ∷ xs) = entries_grow f.imported instances.Shim table_name (shim_table f)
 
-types_stay : (f : Fixup) (i : ℕ) (type : FuncType) → slice_get f.types i ≡ Some type → slice_get (types_of f) i ≡ Some type
-types_stay f i type h = by f.calls
+pub types_stay : (f : Fixup) (i : ℕ) (type : FuncType) → slice_get f.types i ≡ Some type → slice_get (types_of f) i ≡ Some type
+types_stay f i type h = by (needs_own f.users)
   where
-    by : (calls : List ℕ) → slice_get (by_calls calls f.types (λ function. f.types) (interned f.types thunk)) i ≡ Some type
-    by [] = h
-    by (g ∷ []) = h
-    by (g ∷ k ∷ gs) = type_kept f.types thunk type i h
+    by : (needed : Bool) → slice_get (if needed then interned f.types thunk else f.types) i ≡ Some type
+    by false = h
+    by true = type_kept f.types thunk type i h
 
 module _ (f : Fixup) (later : Store) (moment : Now) (supply : Import → Option Given) (given : List Given) (supplied : IsSupplied supply (all_imported f).entries given) (matching : Matching (types_of f) later moment (all_imported f).entries given) where
   -- the import that is there
@@ -217,30 +219,41 @@ module _ (f : Fixup) (later : Store) (moment : Now) (supply : Import → Option 
 
 -- ---- all targets
 
-record AllGiven (later : Store) (supply : Import → Option Given) (functions : List ℕ) (shims : List NamedShim) (fills : List ℕ) : Type 0 where
-  pub addresses : List ℕ
-  pub targets : AllZip (λ (s : NamedShim) address. (type_index : ℕ) × (supply (entry_of instances.Actual s.name (entities.Function type_index)) ≡ Some (FunctionAt address))) shims addresses
-  pub found : all_at functions fills ≡ Some addresses
-  pub signed : (i : ℕ) (s : NamedShim) (address : ℕ) → slice_get shims i ≡ Some s → slice_get addresses i ≡ Some address → (function : Func) × (slice_get later.functions address ≡ Some function) × (signature_of function ≡ s.type)
+-- what fills a slot, by its address: it is found at its index among these functions, and is there among those of the store
+record SlotGiven (supply : Import → Option Given) (count first : ℕ) (functions : List ℕ) (stored : List Func) (s : NamedShim) (fill : Fill) : Type 0 where
+  address : ℕ
+  target : IsFilledAt supply count s fill address
+  at : slice_get functions (filled_by first fill) ≡ Some address
+  function : Func
+  there : slice_get stored address ≡ Some function
+  same : signature_of function ≡ s.type
 
-all_given : (later : Store) (supply : Import → Option Given) (functions : List ℕ) (shims : List NamedShim) (fills : List ℕ) → AllZip (TargetGiven later supply functions) shims fills → AllGiven later supply functions shims fills
-all_given later supply functions [] [] h = record { addresses = []; targets = tt; found = refl; signed = λ i s a hs ha. absurd (none-some s hs) }
-all_given later supply functions [] (k ∷ ks) h = absurd h
-all_given later supply functions (s ∷ ss) [] h = absurd h
-all_given later supply functions (s ∷ ss) (k ∷ ks) h =
-    let r = all_given later supply functions ss ks h.1 in
+record AllGiven (supply : Import → Option Given) (count first : ℕ) (functions : List ℕ) (stored : List Func) (shims : List NamedShim) (fills : List Fill) : Type 0 where
+  pub addresses : List ℕ
+  pub targets : AreTargets supply count shims fills addresses
+  pub found : all_at functions (map (filled_by first) fills) ≡ Some addresses
+  pub counted : length addresses ≡ length shims
+  pub signed : (i : ℕ) (s : NamedShim) (address : ℕ) → slice_get shims i ≡ Some s → slice_get addresses i ≡ Some address → (function : Func) × (slice_get stored address ≡ Some function) × (signature_of function ≡ s.type)
+
+all_given : (supply : Import → Option Given) (count first : ℕ) (functions : List ℕ) (stored : List Func) (shims : List NamedShim) (fills : List Fill) → AllZip (SlotGiven supply count first functions stored) shims fills → AllGiven supply count first functions stored shims fills
+all_given supply count first functions stored [] [] h = record { addresses = []; targets = tt; found = refl; counted = refl; signed = λ i s a hs ha. absurd (none-some s hs) }
+all_given supply count first functions stored [] (k ∷ ks) h = absurd h
+all_given supply count first functions stored (s ∷ ss) [] h = absurd h
+all_given supply count first functions stored (s ∷ ss) (k ∷ ks) h =
+    let r = all_given supply count first functions stored ss ks h.1 in
     let g = h.0 in
     record {
       addresses = g.address ∷ r.addresses;
-      targets = ((g.type_index, g.supplied), r.targets);
-      found = ap (λ o. cons_if o (all_at functions ks)) g.at ∙ ap (λ o. cons_if (Some g.address) o) r.found;
+      targets = (g.target, r.targets);
+      found = ap (λ o. cons_if o (all_at functions (map (filled_by first) ks))) g.at ∙ ap (λ o. cons_if (Some g.address) o) r.found;
+      counted = ap suc r.counted;
       signed = λ i t a hs ha. signed_by i t a hs g r.addresses ha r.signed;
     }
   where
-    signed_by : (i : ℕ) (t : NamedShim) (a : ℕ) → slice_get (s ∷ ss) i ≡ Some t → (g : TargetGiven later supply functions s k) (addresses : List ℕ) → slice_get (g.address ∷ addresses) i ≡ Some a →
-        ((j : ℕ) (u : NamedShim) (b : ℕ) → slice_get ss j ≡ Some u → slice_get addresses j ≡ Some b → (function : Func) × (slice_get later.functions b ≡ Some function) × (signature_of function ≡ u.type)) →
-        (function : Func) × (slice_get later.functions a ≡ Some function) × (signature_of function ≡ t.type)
-    signed_by zero t a hs g addresses ha more = (g.function, ap (λ n. slice_get later.functions n) (sym (same_Some g.address a ha)) ∙ g.there, g.same ∙ ap (λ (x : NamedShim). x.type) (same_Some s t hs))
+    signed_by : (i : ℕ) (t : NamedShim) (a : ℕ) → slice_get (s ∷ ss) i ≡ Some t → (g : SlotGiven supply count first functions stored s k) (addresses : List ℕ) → slice_get (g.address ∷ addresses) i ≡ Some a →
+        ((j : ℕ) (u : NamedShim) (b : ℕ) → slice_get ss j ≡ Some u → slice_get addresses j ≡ Some b → (function : Func) × (slice_get stored b ≡ Some function) × (signature_of function ≡ u.type)) →
+        (function : Func) × (slice_get stored a ≡ Some function) × (signature_of function ≡ t.type)
+    signed_by zero t a hs g addresses ha more = (g.function, ap (λ n. slice_get stored n) (sym (same_Some g.address a ha)) ∙ g.there, g.same ∙ ap (λ (x : NamedShim). x.type) (same_Some s t hs))
     signed_by (suc i) t a hs g addresses ha more = more i t a hs ha
 
 -- ---- the instance
@@ -267,19 +280,27 @@ all_among xs ys (i ∷ is) found e = by (slice_get xs i) refl (all_at xs is) ref
     by (Some x) at None others more e = cc
     by None at r others more e = cc
 
--- the instance, where its segment leaves these tables
-split_made : (f : Fixup) (debug_names : Bool) (given : List Given) (later : Store) (moment : Now) (fixed : Made) → instance_of (parts_of (fixup_sections f debug_names)) given later moment ≡ Some fixed → Matching (types_of f) later moment (all_imported f).entries given
+-- what is given matches, and there are functions for all bodies
+pub record IsSplit (f : Fixup) (given : List Given) (later : Store) (moment : Now) : Type 0 where
+  pub matching : Matching (types_of f) later moment (all_imported f).entries given
+  pub functions : List Func
+  pub has : HasFunctions f given later moment functions
+
+pub split_made : (f : Fixup) (debug_names : Bool) (given : List Given) (later : Store) (moment : Now) (fixed : Made) → instance_of (parts_of (fixup_sections f debug_names)) given later moment ≡ Some fixed → IsSplit f given later moment
 split_made f debug_names given later moment fixed is =
     let m = fixup_parts f in
     let frame = new_frame m given later moment in
-    (if_split (matches_each (types_of f) later moment (entities_of f) given) (made_of m frame later moment (own_functions frame m.functions m.bodies) (Some [])) fixed
-    (ap (λ p. instance_of p given later moment) (sym (parts_are f debug_names)) ∙ is)).0
+    let split = if_split (matches_each (types_of f) later moment (entities_of f) given) (made_of m frame later moment (own_functions frame m.functions m.bodies) (Some [])) fixed
+    (ap (λ p. instance_of p given later moment) (sym (parts_are f debug_names)) ∙ is) in
+    let own = has_functions f given later moment fixed split.1 in
+    record { matching = split.0; functions = own.0; has = own.1 }
 
-made_is : (f : Fixup) (debug_names : Bool) (given : List Given) (later : Store) (moment : Now) (fixed : Made) (tables : List (List (Option ℕ))) → instance_of (parts_of (fixup_sections f debug_names)) given later moment ≡ Some fixed →
-    elements_done (frame_of f given later moment) (segments_if (table_of f) f.fills) (later.tables ++ []) ≡ Some tables → made_with f given later moment tables ≡ fixed
-made_is f debug_names given later moment fixed tables is filled =
-    same_Some (made_with f given later moment tables) fixed
-    (sym (instance_is f given later moment tables (split_made f debug_names given later moment fixed is) filled) ∙ ap (λ p. instance_of p given later moment) (sym (parts_are f debug_names)) ∙ is)
+-- the instance, where its segment leaves these tables
+made_is : (f : Fixup) (debug_names : Bool) (given : List Given) (later : Store) (moment : Now) (fixed : Made) (tables : List (List (Option ℕ))) (k : IsSplit f given later moment) → instance_of (parts_of (fixup_sections f debug_names)) given later moment ≡ Some fixed →
+    elements_done (frame_of f given later moment) (segments_if (table_of f) (filling f)) (later.tables ++ []) ≡ Some tables → made_with f given later moment k.functions tables ≡ fixed
+made_is f debug_names given later moment fixed tables k is filled =
+    same_Some (made_with f given later moment k.functions tables) fixed
+    (sym (instance_is f given later moment k.functions tables k.has k.matching filled) ∙ ap (λ p. instance_of p given later moment) (sym (parts_are f debug_names)) ∙ is)
 
 -- ---- the law
 
@@ -289,27 +310,77 @@ type_at_slot [] (y ∷ ys) i s same h = cc
 type_at_slot (x ∷ xs) (y ∷ ys) zero s same h = let e : x.type ≡ y.type = cc in (x, refl, e ∙ ap (λ (z : Slot). z.type) (same_Some y s h))
 type_at_slot (x ∷ xs) (y ∷ ys) (suc i) s same h = let e : map (λ (z : NamedShim). z.type) xs ≡ map (λ (z : Slot). z.type) ys = cc in type_at_slot xs ys i s e h
 
+-- what fills each slot
+module _ (f : Fixup) (debug_names : Bool) (later : Store) (moment : Now) (supply : Import → Option Given) (called : List ℕ) (fixed : Made) (k : FixupMade f debug_names later moment supply called fixed) (split : IsSplit f k.given later moment) where
+  abbrev frame : Frame
+  frame = frame_of f k.given later moment
+
+  abbrev new_functions : List ℕ
+  new_functions = range_with_len (length later.functions) (length (function_types f))
+
+  abbrev first : ℕ
+  first = imported_functions f
+
+  abbrev stored : List Func
+  stored = later.functions ++ split.functions
+
+  -- the wrapper of a place
+  wrapper_given : (s : NamedShim) (place : ℕ) → IsWrapperFor f s place → SlotGiven supply (length later.functions) first frame.functions stored s (slots.Wrapped place)
+  wrapper_given s place h =
+      let own = functions_are f k.given later moment split.functions split.has in
+      let made = AllZip-at (IsWrapper frame) f.wrappers own.wrapped place h.wrapper own.each h.at in
+      let count : length (functions_given k.given) ≡ first = (counts_given (types_of f) later moment (all_imported f).entries k.given split.matching).0 in
+      let types : List ℕ = map (λ (w : Wrapper). w.type_index) f.wrappers in
+      let all : length (function_types f) ≡ length types + length (types_if (own_type f)) = length-append types (types_if (own_type f)) in
+      let same : length types ≡ length f.wrappers = length-map f.wrappers (λ (w : Wrapper). w.type_index) in
+      let within : place < length f.wrappers = slice_get_within f.wrappers place h.wrapper h.at in
+      let address : ℕ = length later.functions + place in
+      let among : slice_get split.functions place ≡ Some made.0 = ap (λ l. slice_get l place) own.whole ∙ slice_get-append own.wrapped (own_if frame (own_type f) f.users) place made.0 made.1 in
+      let signature : made.2.type ≡ s.type = same_Some made.2.type s.type (sym made.2.typed ∙ types_stay f h.wrapper.type_index s.type h.typed) in
+      record {
+        address = address;
+        target = refl;
+        at = after_those (functions_given k.given) new_functions first place address (sym count) (range_at (length later.functions) (length (function_types f)) place (omega (arith, within, all, same)));
+        function = made.0;
+        there = after_those later.functions split.functions (length later.functions) place made.0 refl among;
+        same = ap signature_of made.2.is ∙ signature;
+      }
+
+  slot_given : (s : NamedShim) (fill : Fill) → IsSlotFor f s fill → SlotGiven supply (length later.functions) first frame.functions stored s fill
+  slot_given s (slots.Imported function) t =
+      let g = target_given f later moment supply k.given k.supplied split.matching s function t in
+      record {
+        address = g.address;
+        target = (g.type_index, g.supplied);
+        at = slice_get-append (functions_given k.given) new_functions function g.address g.at;
+        function = g.function;
+        there = slice_get-append later.functions split.functions g.address g.function g.there;
+        same = g.same;
+      }
+  slot_given s (slots.Wrapped place) h = wrapper_given s place h
+
 pub fixups_fill_shims : FixupsFillShims
 fixups_fill_shims f shims debug_names types slots store now made later moment supply called fixed h k =
     let frame = frame_of f k.given later moment in
-    let matching = split_made f debug_names k.given later moment fixed k.is_made in
-    let all = all_given later supply (functions_given k.given) shims f.fills (AllZip-weaker (λ s function t. target_given f later moment supply k.given k.supplied matching s function t) shims f.fills h.fills) in
+    let split = split_made f debug_names k.given later moment fixed k.is_made in
+    let stored : List Func = later.functions ++ split.functions in
+    let all = all_given supply (length later.functions) (imported_functions f) frame.functions stored shims f.fills
+    (AllZip-weaker (λ s fill t. slot_given f debug_names later moment supply called fixed k split s fill t) shims f.fills h.fills) in
     let new_address = length store.tables in
     let named : slice_get frame.tables (table_index f) ≡ Some new_address =
-    ap (λ l. slice_get l (table_index f)) (append-nil (tables_given k.given)) ∙ table_given f later moment supply k.given k.supplied matching new_address h.any h.may_import h.table in
-    let found : all_at frame.functions f.fills ≡ Some all.addresses = all_among (functions_given k.given) _ f.fills all.addresses all.found in
+    ap (λ l. slice_get l (table_index f)) (append-nil (tables_given k.given)) ∙ table_given f later moment supply k.given k.supplied split.matching new_address h.any h.may_import h.table in
     let counted : length all.addresses ≡ length slots =
-    sym (length-AllZip _ shims all.addresses all.targets) ∙ sym (length-map shims (λ s. s.type)) ∙ ap length h.same_types ∙ length-map slots (λ s. s.type) in
-    let filled = fill_by (table_index f) frame f.fills later.tables new_address named ∙ segments_fill types slots store now made later (record frame { tables = new_address ∷ [] }) f.fills all.addresses h.shims_made h.extends refl found counted in
+    all.counted ∙ sym (length-map shims (λ s. s.type)) ∙ ap length h.same_types ∙ length-map slots (λ s. s.type) in
+    let filled = fill_by (table_index f) frame (filling f) later.tables new_address named ∙ segments_fill types slots store now made later (record frame { tables = new_address ∷ [] }) (filling f) all.addresses h.shims_made h.extends refl all.found counted in
     let full = store.tables ++ map (λ a. Some a) all.addresses ∷ h.extends.more_tables in
-    let done : elements_done frame (segments_if (table_of f) f.fills) (later.tables ++ []) ≡ Some full =
-    ap (λ o. elements_done frame (segments_if o f.fills) (later.tables ++ [])) (some_of f.fills None (Some (table_index f)) h.any)
-    ∙ ap (λ l. elements_done frame (fill_segment (table_index f) f.fills ∷ []) l) (append-nil later.tables)
+    let done : elements_done frame (segments_if (table_of f) (filling f)) (later.tables ++ []) ≡ Some full =
+    ap (λ o. elements_done frame (segments_if o (filling f)) (later.tables ++ [])) (some_of f.fills None (Some (table_index f)) h.any)
+    ∙ ap (λ l. elements_done frame (fill_segment (table_index f) (filling f) ∷ []) l) (append-nil later.tables)
     ∙ ap (λ o. bind o (λ after. Some after)) filled in
-    let is = made_is f debug_names k.given later moment fixed full k.is_made done in
+    let is = made_is f debug_names k.given later moment fixed full split k.is_made done in
     let tables_are : fixed.store.tables ≡ full = ap (λ (x : Made). x.store.tables) (sym is) in
-    let functions_are : fixed.store.functions ≡ later.functions ++ own_if frame (own_type f) f.calls = ap (λ (x : Made). x.store.functions) (sym is) in
-    let more = own_if frame (own_type f) f.calls in
+    let functions_left : fixed.store.functions ≡ stored = ap (λ (x : Made). x.store.functions) (sym is) in
+    let more = split.functions in
     record {
       addresses = all.addresses;
       targets = all.targets;
@@ -319,62 +390,60 @@ fixups_fill_shims f shims debug_names types slots store now made later moment su
       forward = λ final e i s address at_slot at_address n arguments now' fine.
           let t = type_at_slot shims slots i s h.same_types at_slot in
           let g = all.signed i t.0 address t.1 at_address in
-          let final_functions : final.functions ≡ later.functions ++ (more ++ e.more_functions) = e.functions ∙ ap (λ l. l ++ e.more_functions) functions_are ∙ append_assoc later.functions more e.more_functions in
+          let before : final.functions ≡ stored ++ e.more_functions = e.functions ∙ ap (λ l. l ++ e.more_functions) functions_left in
+          let final_functions : final.functions ≡ later.functions ++ (more ++ e.more_functions) = before ∙ append_assoc later.functions more e.more_functions in
           filled_shims_forward types slots store now made final (h.extends.more_functions ++ (more ++ e.more_functions)) all.addresses (h.extends.more_tables ++ e.more_tables) h.shims_made
           (final_functions ∙ ap (λ l. l ++ (more ++ e.more_functions)) h.extends.functions ∙ append_assoc made.store.functions h.extends.more_functions (more ++ e.more_functions))
           (e.tables ∙ ap (λ l. l ++ e.more_tables) tables_are ∙ append_assoc store.tables (map (λ a. Some a) all.addresses ∷ h.extends.more_tables) e.more_tables)
-          i s address g.0 at_slot at_address (ap (λ l. slice_get l address) final_functions ∙ slice_get-append later.functions (more ++ e.more_functions) address g.0 g.1) (g.2 ∙ t.2) n arguments now' fine;
+          i s address g.0 at_slot at_address (ap (λ l. slice_get l address) before ∙ slice_get-append stored e.more_functions address g.0 g.1) (g.2 ∙ t.2) n arguments now' fine;
     }
 
 -- ---- what is called
 
--- its segment leaves some tables, and its own where it has none
-tables_after : (f : Fixup) (debug_names : Bool) (given : List Given) (later : Store) (moment : Now) (fixed : Made) → instance_of (parts_of (fixup_sections f debug_names)) given later moment ≡ Some fixed →
-    (tables : List (List (Option ℕ))) × (elements_done (frame_of f given later moment) (segments_if (table_of f) f.fills) (later.tables ++ []) ≡ Some tables)
-tables_after f debug_names given later moment fixed is = by (elements_done frame segments (later.tables ++ [])) refl
+-- its segment leaves some tables
+tables_after : (f : Fixup) (given : List Given) (later : Store) (moment : Now) (fixed : Made) (k : IsSplit f given later moment) → made_of (fixup_parts f) (frame_of f given later moment) later moment (own_functions (frame_of f given later moment) (function_types f) (bodies_of f)) (Some []) ≡ Some fixed →
+    (tables : List (List (Option ℕ))) × (elements_done (frame_of f given later moment) (segments_if (table_of f) (filling f)) (later.tables ++ []) ≡ Some tables)
+tables_after f given later moment fixed k made = by (elements_done (frame_of f given later moment) (segments_if (table_of f) (filling f)) (later.tables ++ [])) refl
   where
-    m : Parts
-    m = fixup_parts f
-
-    frame : Frame
-    frame = frame_of f given later moment
-
-    segments : List ElementSegment
-    segments = segments_if (table_of f) f.fills
-
-    made : instance_of m given later moment ≡ Some fixed
-    made = ap (λ p. instance_of p given later moment) (sym (parts_are f debug_names)) ∙ is
-
-    split : (matches_each (types_of f) later moment (entities_of f) given ≡ true) × (made_of m frame later moment (own_functions frame m.functions m.bodies) (Some []) ≡ Some fixed)
-    split = if_split (matches_each (types_of f) later moment (entities_of f) given) (made_of m frame later moment (own_functions frame m.functions m.bodies) (Some [])) fixed made
-
-    by : (o : Option (List (List (Option ℕ)))) → elements_done frame segments (later.tables ++ []) ≡ o → (tables : List (List (Option ℕ))) × (elements_done frame segments (later.tables ++ []) ≡ Some tables)
+    by : (o : Option (List (List (Option ℕ)))) → elements_done (frame_of f given later moment) (segments_if (table_of f) (filling f)) (later.tables ++ []) ≡ o →
+        (tables : List (List (Option ℕ))) × (elements_done (frame_of f given later moment) (segments_if (table_of f) (filling f)) (later.tables ++ []) ≡ Some tables)
     by (Some tables) e = (tables, e)
-    by None e =
-        let fails : made_of m frame later moment (own_functions frame m.functions m.bodies) (Some []) ≡ None = failed f given later moment e in
-        let no : None ≡ Some fixed = sym fails ∙ split.1 in cc
+    by None e = absurd (none-some fixed (sym (failed f given later moment k.functions k.has e) ∙ made))
+
+-- how it is made
+made_parts : (f : Fixup) (debug_names : Bool) (given : List Given) (later : Store) (moment : Now) (fixed : Made) → instance_of (parts_of (fixup_sections f debug_names)) given later moment ≡ Some fixed →
+    made_of (fixup_parts f) (frame_of f given later moment) later moment (own_functions (frame_of f given later moment) (function_types f) (bodies_of f)) (Some []) ≡ Some fixed
+made_parts f debug_names given later moment fixed is =
+    (if_split (matches_each (types_of f) later moment (entities_of f) given) (made_of (fixup_parts f) (frame_of f given later moment) later moment (own_functions (frame_of f given later moment) (function_types f) (bodies_of f)) (Some [])) fixed
+    (ap (λ p. instance_of p given later moment) (sym (parts_are f debug_names)) ∙ is)).1
+
+-- the functions that there are then
+pub functions_made : (f : Fixup) (debug_names : Bool) (given : List Given) (later : Store) (moment : Now) (fixed : Made) (k : IsSplit f given later moment) → instance_of (parts_of (fixup_sections f debug_names)) given later moment ≡ Some fixed → fixed.store.functions ≡ later.functions ++ k.functions
+functions_made f debug_names given later moment fixed k is =
+    let after = tables_after f given later moment fixed k (made_parts f debug_names given later moment fixed is) in
+    ap (λ (x : Made). x.store.functions) (sym (made_is f debug_names given later moment fixed after.0 k is after.1))
 
 pub fixups_call : FixupsCall
 fixups_call f debug_names later moment supply called fixed h =
-    let frame = frame_of f h.given later moment in
-    let matching = split_made f debug_names h.given later moment fixed h.is_made in
-    let after = tables_after f debug_names h.given later moment fixed h.is_made in
-    let is = made_is f debug_names h.given later moment fixed after.0 h.is_made after.1 in
-    let same_now : (made_with f h.given later moment after.0).now ≡ moment = ap (λ l. record moment { globals = l }) (append-nil moment.globals) in
+    let split = split_made f debug_names h.given later moment fixed h.is_made in
+    let matching = split.matching in
+    let after = tables_after f h.given later moment fixed split (made_parts f debug_names h.given later moment fixed h.is_made) in
+    let is = made_is f debug_names h.given later moment fixed after.0 split h.is_made after.1 in
+    let same_now : (made_with f h.given later moment split.functions after.0).now ≡ moment = ap (λ l. record moment { globals = l }) (append-nil moment.globals) in
     record {
-      more_functions = own_if frame (own_type f) f.calls;
+      more_functions = split.functions;
       functions = ap (λ (x : Made). x.store.functions) (sym is);
       memories = ap (λ (x : Made). x.store.memories) (sym is) ∙ append-nil later.memories;
       tables = λ none. ap (λ (x : Made). x.store.tables) (sym is) ∙ unfilled none after.1;
       starts =
           ap (λ p. started p fixed) (parts_are f debug_names)
           ∙ ap (λ (x : Made). started (fixup_parts f) x) (sym is)
-          ∙ starts f h.given later moment after.0 called h.are_called (counts_given (types_of f) later moment (all_imported f).entries h.given matching).0
-          ∙ ap (λ (n : Now). deeds_done (map call_of called) n) same_now;
+          ∙ starts f h.given later moment split.functions after.0 called split.has h.are_called (counts_given (types_of f) later moment (all_imported f).entries h.given matching).0
+          ∙ ap (λ (n : Now). deeds_done (calls_of f.users called) n) same_now;
     }
   where
-    unfilled : {tables : List (List (Option ℕ))} → f.fills ≡ [] → elements_done (frame_of f h.given later moment) (segments_if (table_of f) f.fills) (later.tables ++ []) ≡ Some tables → tables ≡ later.tables
+    unfilled : {tables : List (List (Option ℕ))} → f.fills ≡ [] → elements_done (frame_of f h.given later moment) (segments_if (table_of f) (filling f)) (later.tables ++ []) ≡ Some tables → tables ≡ later.tables
     unfilled {tables} none e =
-        let empty : elements_done (frame_of f h.given later moment) (segments_if (table_of f) f.fills) (later.tables ++ []) ≡ Some (later.tables ++ []) =
-        ap (λ o. elements_done (frame_of f h.given later moment) (segments_if o f.fills) (later.tables ++ [])) (none_of f.fills None (Some (table_index f)) none) in
+        let empty : elements_done (frame_of f h.given later moment) (segments_if (table_of f) (filling f)) (later.tables ++ []) ≡ Some (later.tables ++ []) =
+        ap (λ o. elements_done (frame_of f h.given later moment) (segments_if o (filling f)) (later.tables ++ [])) (none_of f.fills None (Some (table_index f)) none) in
         sym (same_Some (later.tables ++ []) tables (sym empty ∙ e)) ∙ append-nil later.tables

@@ -6,4 +6,5 @@ pub mod Building
 pub mod Arguments
 pub mod Making
 pub mod Filling
+pub mod Wrapping
 pub mod Worked

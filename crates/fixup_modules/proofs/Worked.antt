@@ -6,15 +6,18 @@ use Rattle.byte_encoding.specs.Encoding.{leb128}
 use Rattle.core_types.specs.declared.types.FuncType.{FuncType}
 use Rattle.core_types.specs.declared.types.ValType.TheVariants.{I32}
 use Rattle.core_bytes.specs.declared.entity.EntityType.TheVariants as entities
+use Rattle.core_bytes.specs.declared.entry.Export.{Export}
 use Rattle.core_bytes.specs.declared.entry.Import.{Import}
 use Rattle.core_bytes.specs.declared.section.Section.TheVariants as sections
 use Rattle.core_bytes.specs.Modules.{encoding_of, section}
 use Rattle.core_bytes.specs.Signed.{signed_within}
+use Rattle.core_runs.specs.Hooks.{bracket_of}
+use Rattle.core_runs.specs.declared.bracket.Bracketed.TheVariants.{SyncEntry}
 use Rattle.interned_types.specs.Interning.{type_index}
 use Rattle.fixup_modules.specs.declared.instances.ImportedInstance.TheVariants as instances
 use Rattle.fixup_modules.specs.Imports.{with_import, import_index, has_other_type, is_taken, nothing_imported}
-use Rattle.fixup_modules.specs.Fixups.{Fixup, nothing_fixed, thunk, with_type, with_shim, with_initialize}
-use Rattle.fixup_modules.specs.Sections.{all_imported, start_function, fixup_sections, encoded_fixup, fill_segment, table_index}
+use Rattle.fixup_modules.specs.Fixups.{Fixup, nothing_fixed, thunk, with_type, with_shim, with_initialize, with_task_hook, with_wrapper}
+use Rattle.fixup_modules.specs.Sections.{all_imported, exports_of, start_function, fixup_sections, encoded_fixup, fill_segment, table_index}
 
 -- a function of two parameters and no result
 abbrev pair : FuncType
@@ -67,6 +70,35 @@ one_call = refl
 two_calls : (encoding_of (fixup_sections (with_initialize (with_initialize nothing_fixed (codes "a")) (codes "b")) false)).bytes ≡ 0x00 ∷ 0x61 ∷ 0x73 ∷ 0x6d ∷ 0x01 ∷ 0x00 ∷ 0x00 ∷ 0x00 ∷ 0x01 ∷ 0x04 ∷ 0x01 ∷ 0x60 ∷ 0x00 ∷ 0x00 ∷ 0x02 ∷ 0x13 ∷ 0x02 ∷ 0x04 ∷ 0x6d ∷ 0x61 ∷ 0x69 ∷ 0x6e ∷ 0x01 ∷ 0x61 ∷ 0x00 ∷ 0x00 ∷ 0x04 ∷ 0x6d ∷ 0x61 ∷ 0x69 ∷ 0x6e ∷ 0x01 ∷ 0x62 ∷ 0x00 ∷ 0x00 ∷ 0x03 ∷ 0x02 ∷ 0x01 ∷ 0x00 ∷ 0x08 ∷ 0x01 ∷ 0x02 ∷ 0x0a ∷ 0x08 ∷ 0x01 ∷ 0x06 ∷ 0x00 ∷ 0x10 ∷ 0x00 ∷ 0x10 ∷ 0x01 ∷ 0x0b ∷ []
 unfolding leb128 signed_within digits
 two_calls = refl
+
+-- the task hook round one call: the module that a world has whose main exports both and nothing else
+abbrev hook_and_call : Fixup
+hook_and_call = with_task_hook (with_initialize nothing_fixed (codes "i")) (codes "h")
+
+hooked_call : (encoding_of (fixup_sections hook_and_call false)).bytes ≡ 0x00 ∷ 0x61 ∷ 0x73 ∷ 0x6d ∷ 0x01 ∷ 0x00 ∷ 0x00 ∷ 0x00 ∷ 0x01 ∷ 0x08 ∷ 0x02 ∷ 0x60 ∷ 0x00 ∷ 0x00 ∷ 0x60 ∷ 0x01 ∷ 0x7f ∷ 0x00 ∷ 0x02 ∷ 0x13 ∷ 0x02 ∷ 0x04 ∷ 0x6d ∷ 0x61 ∷ 0x69 ∷ 0x6e ∷ 0x01 ∷ 0x69 ∷ 0x00 ∷ 0x00 ∷ 0x04 ∷ 0x6d ∷ 0x61 ∷ 0x69 ∷ 0x6e ∷ 0x01 ∷ 0x68 ∷ 0x00 ∷ 0x01 ∷ 0x03 ∷ 0x02 ∷ 0x01 ∷ 0x00 ∷ 0x08 ∷ 0x01 ∷ 0x02 ∷ 0x0a ∷ 0x0e ∷ 0x01 ∷ 0x0c ∷ 0x00 ∷ 0x41 ∷ 0x06 ∷ 0x10 ∷ 0x01 ∷ 0x10 ∷ 0x00 ∷ 0x41 ∷ 0x07 ∷ 0x10 ∷ 0x01 ∷ 0x0b ∷ []
+unfolding leb128 signed_within digits
+hooked_call = refl
+
+-- nothing is done at the start: the hook has nothing round which it could be called
+hook_alone : encoded_fixup (with_task_hook nothing_fixed (codes "h")) false ≡ None
+hook_alone = refl
+
+-- the task hook round one entry: the module that a world has whose main exports a lifted function and the hook
+abbrev wrapped_entry : Fixup
+wrapped_entry = with_wrapper (with_task_hook nothing_fixed (codes "h")) 0 instances.Main (codes "f") thunk (bracket_of SyncEntry)
+
+entry_wrapped : (encoding_of (fixup_sections wrapped_entry false)).bytes ≡ 0x00 ∷ 0x61 ∷ 0x73 ∷ 0x6d ∷ 0x01 ∷ 0x00 ∷ 0x00 ∷ 0x00 ∷ 0x01 ∷ 0x08 ∷ 0x02 ∷ 0x60 ∷ 0x01 ∷ 0x7f ∷ 0x00 ∷ 0x60 ∷ 0x00 ∷ 0x00 ∷ 0x02 ∷ 0x13 ∷ 0x02 ∷ 0x04 ∷ 0x6d ∷ 0x61 ∷ 0x69 ∷ 0x6e ∷ 0x01 ∷ 0x68 ∷ 0x00 ∷ 0x00 ∷ 0x04 ∷ 0x6d ∷ 0x61 ∷ 0x69 ∷ 0x6e ∷ 0x01 ∷ 0x66 ∷ 0x00 ∷ 0x01 ∷ 0x03 ∷ 0x02 ∷ 0x01 ∷ 0x01 ∷ 0x07 ∷ 0x09 ∷ 0x01 ∷ 0x05 ∷ 0x68 ∷ 0x6f ∷ 0x6f ∷ 0x6b ∷ 0x30 ∷ 0x00 ∷ 0x02 ∷ 0x0a ∷ 0x0e ∷ 0x01 ∷ 0x0c ∷ 0x00 ∷ 0x41 ∷ 0x00 ∷ 0x10 ∷ 0x00 ∷ 0x10 ∷ 0x01 ∷ 0x41 ∷ 0x01 ∷ 0x10 ∷ 0x00 ∷ 0x0b ∷ []
+unfolding leb128 signed_within digits
+entry_wrapped = refl
+
+entry_named : drop 70 (encoding_of (fixup_sections wrapped_entry true)).bytes ≡ 0x00 ∷ 0x2d ∷ 0x04 ∷ 0x6e ∷ 0x61 ∷ 0x6d ∷ 0x65 ∷ 0x00 ∷ 0x15 ∷ 0x14 ∷ 0x77 ∷ 0x69 ∷ 0x74 ∷ 0x2d ∷ 0x63 ∷ 0x6f ∷ 0x6d ∷ 0x70 ∷ 0x6f ∷ 0x6e ∷ 0x65 ∷ 0x6e ∷ 0x74 ∷ 0x3a ∷ 0x66 ∷ 0x69 ∷ 0x78 ∷ 0x75 ∷ 0x70 ∷ 0x73 ∷ 0x01 ∷ 0x0f ∷ 0x03 ∷ 0x00 ∷ 0x01 ∷ 0x68 ∷ 0x01 ∷ 0x01 ∷ 0x66 ∷ 0x02 ∷ 0x06 ∷ 0x68 ∷ 0x6f ∷ 0x6f ∷ 0x6b ∷ 0x2d ∷ 0x66 ∷ []
+unfolding leb128 signed_within digits
+entry_named = refl
+
+-- two wrappers have two names
+two_exports : map {B = List ℕ} (λ (e : Export). e.name) (exports_of (with_wrapper wrapped_entry 0 instances.Main (codes "g") thunk (bracket_of SyncEntry))) ≡ codes "hook0" ∷ codes "hook1" ∷ []
+unfolding digits
+two_exports = refl
 
 -- a shim and a call: the function of the shim is imported first, and the table last
 abbrev shim_and_call : Fixup

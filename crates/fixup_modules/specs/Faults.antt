@@ -14,3 +14,9 @@ abbrev pub IsFull : ℕ → ShimFault → Type 0
 IsFull count faults.Memory = Unit {0}
 IsFull count (faults.TooMany n) = (2 ^ 32 ≤ n) × (n ≡ count + 1)
 IsFull count e = ⊥
+
+-- Out of memory, or so many can't be counted.
+abbrev pub IsBeyond : ℕ → ShimFault → Type 0
+IsBeyond count faults.Memory = Unit {0}
+IsBeyond count (faults.TooMany n) = (2 ^ 32 ≤ n) × (n ≡ count)
+IsBeyond count e = ⊥

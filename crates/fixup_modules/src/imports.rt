@@ -1,6 +1,6 @@
 //! What is imported.
 
-ghost use Rattle.std.specs.Prelude.{◌≡◌, ◌+◌, ◌<◌, ◌^◌, [], ◌∷◌, ◌++◌, if◌then◌else◌, true, false, None, List, OnOk, OnErr, IfOk, IfErr};
+ghost use Rattle.std.specs.Prelude.{◌≡◌, ◌+◌, ◌<◌, ◌^◌, [], ◌∷◌, ◌++◌, if◌then◌else◌, true, false, None, List, length, OnOk, OnErr, IfOk, IfErr};
 ghost use Rattle.std.specs.Map.{lookup};
 ghost use Rattle.std.specs.Str.{bytes_eq};
 ghost use Rattle.comp_lists.specs.Tables.{with_first};
@@ -21,6 +21,7 @@ use crate::import_name::ImportName;
 use crate::instances::ImportedInstance;
 use crate::sections::{import_section, name_section};
 use crate::tables::InstanceTable;
+use crate::wrappers::Wrapper;
 use byte_encoding::next_count;
 use comp_lists::{Keyed, Text, TryClone};
 use core_bytes::{EntityType, ImportSection, Section};
@@ -242,12 +243,19 @@ impl ImportTable {
         self.counts.of(ExportKind::Func)
     }
 
-    /// The section with the names of the module, of what is imported, and of its own function, by
-    /// its index, where it has one.
-    pub(crate) fn names(&self, alloc: Global, own: Option<u32>) -> Result<Section, AllocError>
-        ensures { IfOk result (λ section. section ∷ [] ≡ names_of true self.now.entries own) }
+    /// The section with the names of the module, of what is imported, of its wrappers, and of its own
+    /// function, by its index, where it has one.
+    pub(crate) fn names(
+        &self,
+        alloc: Global,
+        wrappers: &[Wrapper],
+        own: Option<u32>,
+    ) -> Result<Section, AllocError>
+        requires { count_of kinds.Func self.now.entries + length wrappers.now < 2 ^ 32 }
+        ensures { IfOk result
+            (λ section. section ∷ [] ≡ names_of true self.now.entries wrappers.now own) }
     {
-        name_section(alloc, &self.items, own)
+        name_section(alloc, &self.items, self.functions(), wrappers, own)
     }
 
     /// The instances from which is imported.

@@ -1,6 +1,6 @@
 //! What fixup modules do.
 
-ghost use Rattle.fixup_modules.specs.Laws.{AddedShimsAreFilled, ImportsAreFromInstances, FixupsFillShims, FixupsCall};
+ghost use Rattle.fixup_modules.specs.Laws.{AddedShimsAreFilled, ImportsAreFromInstances, FixupsFillShims, FixupsCall, FixupsWrap};
 
 /// Each shim that was added has a slot, which is filled with what is imported for it.
 pub fn added_shims_are_filled()
@@ -21,4 +21,10 @@ pub fn fixups_fill_shims()
 /// and nothing else is seen of it.
 pub fn fixups_call()
     ensures { FixupsCall }
+{}
+
+/// Where an instance of a fixup module is made, each wrapper calls the task hook round its target as its
+/// bracket says.
+pub fn fixups_wrap()
+    ensures { FixupsWrap }
 {}

@@ -111,7 +111,7 @@ post_return_typed : (core : CoreModule) (r : Resolve) (e : EntityType) (o : Opti
 post_return_typed core r e (Some f) ty fits is = entity_of core e (returning (signature GuestExport r.types f)) fits ∙ is
 post_return_typed core r e None ty fits is = absurd (none-some ty is)
 
--- `resource.drop` takes a handle, and a destructor a representation
+-- `resource.drop` takes a handle, a destructor a representation, and a task hook the number of a moment
 abbrev dropping : WasmSignature
 dropping = record { params = numbers.I32 ∷ []; results = []; indirect_params = false; retptr = false }
 
@@ -305,4 +305,5 @@ module _ (r : Resolve) (present : 0 < length r.worlds) (core : CoreModule) where
   export_typed exports.ReallocForAdapter items.Tag ty fits is = absurd (true≢false (sym fits))
   export_typed exports.Initialize (items.Entity e) ty fits is = entity_of core e initializing fits ∙ is
   export_typed exports.Initialize items.Tag ty fits is = absurd (true≢false (sym fits))
-  export_typed role item ty fits is = absurd (none-some ty is)
+  export_typed exports.WasmTaskHook (items.Entity e) ty fits is = entity_of core e dropping fits ∙ is
+  export_typed exports.WasmTaskHook items.Tag ty fits is = absurd (true≢false (sym fits))

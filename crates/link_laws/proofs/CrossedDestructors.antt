@@ -242,7 +242,7 @@ pub shims_made : sections_of_shims None None (shims_of world) false ≡ shim_mod
 unfolding values_from digits
 shims_made = refl
 
-pub fixup_made : sections_of_fixup (shims_of world) None false ≡ fixup_module
+pub fixup_made : sections_of_fixup (shims_of world) None None false ≡ fixup_module
 unfolding values_from digits
 fixup_made = refl
 
@@ -581,7 +581,7 @@ m = machine_of (end_of crossed)
 
 not_main_d : CoreMeets world m (Some brackets.Destructor) 1 (ItemIsExport world m (of_main d)) → ⊥
 not_main_d c =
-    let plain_one : CoreMeets world m None 1 (ItemIsExport world m (of_main d)) = record { target = c.target; what = c.what; item = c.item; hook = c.hook; is = c.is; known = c.known; named = c.named; hooked = c.hooked; acts = c.acts } in
+    let plain_one : CoreMeets world m None 1 (ItemIsExport world m (of_main d)) = record { target = c.target; what = c.what; item = c.item; hook = c.hook; is = c.is; known = c.known; named = c.named; hooked = λ bracketed name is e. absurd (none-some bracketed is); acts = c.acts } in
     not_d (named_item world m 1 (ItemIsExport world m (of_main d)) plain_one own 1 (ExportedBy 1 e) refl refl (λ arguments. calls_e arguments (traps_next m))).same_name
 
 same_resource : (p : ProvidedType) → slice_get (provided_resources world) 0 ≡ Some p → of_number 0 ≡ p

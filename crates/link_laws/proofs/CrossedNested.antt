@@ -1,7 +1,7 @@
 -- The list of the world that exports an interface, where the two functions are crossed: in the
 -- nested component, or among its arguments. It runs to its end, but it isn't linked.
 use Rattle.std.proofs.Common.{◌≡◌, ◌∙◌, ℕ, List, [], ◌∷◌, refl, sym, ap, subst, Option, Some, None, arith}
-use Rattle.std.proofs.lemmas.Option.{same_Some}
+use Rattle.std.proofs.lemmas.Option.{none-some, same_Some}
 use Rattle.std.specs.List.{slice_get}
 use Rattle.std.specs.Option.{option_and_then}
 use Rattle.comp_bytes.proofs.Worked.{f, g}
@@ -43,7 +43,7 @@ module _ (m : Machine) (found : option_and_then (export_of spaces.Func f) (expor
   -- core function 1 isn't main's g
   not_g : CoreMeets world m (Some brackets.SyncEntry) 1 (ItemIsExport world m entry_of_f) → ⊥
   not_g c =
-      let plain : CoreMeets world m None 1 (ItemIsExport world m entry_of_f) = record { target = c.target; what = c.what; item = c.item; hook = c.hook; is = c.is; known = c.known; named = c.named; hooked = c.hooked; acts = c.acts } in
+      let plain : CoreMeets world m None 1 (ItemIsExport world m entry_of_f) = record { target = c.target; what = c.what; item = c.item; hook = c.hook; is = c.is; known = c.known; named = c.named; hooked = λ bracketed name is e. absurd (none-some bracketed is); acts = c.acts } in
       let same : k ≡ g = (own_item world m 1 (ItemIsExport world m entry_of_f) plain 1 plain_core (ExportedBy 0 k) opaque known).same_name in
       let letters : 0x6b ≡ 0x67 = ap letter same in
       absurd (omega (arith, letters))

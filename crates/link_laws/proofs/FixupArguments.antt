@@ -1,5 +1,5 @@
 -- The arguments of the fixup: what the shims stand for, main, and the shims.
-use Rattle.std.proofs.Common.{◌^◌, ◌≡◌, ◌∙◌, ℕ, ◌<◌, List, [], ◌∷◌, length, map, refl, sym, ap, subst, Option, Some, None}
+use Rattle.std.proofs.Common.{◌^◌, ◌≡◌, ◌∙◌, ℕ, ◌<◌, List, [], ◌∷◌, ◌++◌, length, map, refl, sym, ap, subst, Option, Some, None}
 use Rattle.std.proofs.lemmas.Option.{same_Some}
 use Rattle.std.specs.Prelude.{codes}
 use Rattle.std.specs.List.{slice_get, flat_map, AllZip}
@@ -9,7 +9,8 @@ use Rattle.comp_bytes.specs.declared.def.CoreArgument.{CoreArgument}
 use Rattle.comp_bytes.specs.declared.def.CoreInlineExport.{CoreInlineExport}
 use Rattle.comp_bytes.specs.declared.def.Def.{Def}
 use Rattle.comp_worlds.specs.Bases.{cell_type}
-use Rattle.comp_worlds.specs.Typed.{initialize_type}
+use Rattle.comp_lists.specs.Found.{found}
+use Rattle.comp_roles.specs.declared.offered.ExternType.TheVariants as externs
 use Rattle.comp_worlds.specs.Worlds.{IsWorld}
 use Rattle.comp_worlds.specs.declared.world.ComponentWorld.{ComponentWorld}
 use Rattle.comp_links.specs.Targets.{Main}
@@ -17,24 +18,27 @@ use Rattle.comp_terms.proofs.HasShims.{has_by_shims}
 use Rattle.comp_terms.specs.Generated.{shims_number, target_of}
 use Rattle.comp_terms.specs.Planned.{IsFillFor, AreFillsFor}
 use Rattle.comp_terms.specs.Rules.{IsFixupSource, IsFixupArgument}
+use Rattle.core_types.specs.declared.types.FuncType.{FuncType}
 use Rattle.core_types.specs.declared.types.ValType.{ValType}
-use Rattle.core_runs.specs.Store.{Opaque, Called, Now}
+use Rattle.core_runs.specs.Expected.{hook_signature}
+use Rattle.core_runs.specs.Store.{Opaque, Now}
 use Rattle.fixup_modules.specs.Fixups.{thunk}
+use Rattle.fixup_modules.specs.declared.instances.ImportedInstance.{ImportedInstance}
 use Rattle.fixup_modules.specs.declared.instances.ImportedInstance.TheVariants as sources
-use Rattle.world_shims.specs.WorldShims.{shims_of, type_of_shim, initialize_of, fixup_instances}
+use Rattle.world_shims.specs.WorldShims.{shims_of, type_of_shim, initialize_of, hook_of, actual_if, of_main, main_if, shim_if, fixup_instances}
+use Rattle.world_shims.proofs.MainCalls.{initialize_offered, hook_offered}
 use Rattle.shim_plan.specs.declared.shims.Shim.{Shim}
-use Rattle.shim_runs.specs.ShimRuns.{IsActual, IsCall, AreCalls, instance_exports, fixup_arguments}
+use Rattle.shim_runs.specs.ShimRuns.{IsActual, IsCall, IsCallIf, exports_given, instance_exports, fixup_arguments}
 use Rattle.comp_runs.specs.Store.{Export, CoreItem, ExportedBy, Store}
 use Rattle.comp_runs.specs.Machine.{Scope, address_at, export_named, all_some}
 use Rattle.comp_runs.specs.Instances.{type_space}
 use Rattle.comp_runs.specs.Running.{core_argument}
 use Rattle.link_laws.specs.Composition.{at_root, item_instantiates}
 use Rattle.link_laws.specs.Linking.{initialization}
-use Rattle.link_laws.proofs.Outcomes.{machine}
+use Rattle.link_laws.proofs.Outcomes.{machine, events_of, silent_calls}
 use Rattle.link_laws.proofs.Stores.{IsOpaqueOf, ShimsAt, exports_of_shims, IsModuleInstance, IsUserInstance, IsUserItem, IsInlineInstance, IsFilledWith, IsServedAs, IsNamedEntry, IsFunctionExported, main_module, Agrees, Calls, IsSeen}
 use Rattle.link_laws.proofs.Given.{by_parts, found_name, thing_there, target_there, of_shims, module_there, user_there, offered_there}
 use Rattle.link_laws.proofs.GivenImports.{purpose_opaque, needs_none}
-use Rattle.link_laws.proofs.Plain.{initialize_offered}
 
 -- what is given for a shim: a function of its type that is what the shim stands for
 abbrev pub IsFilling : ComponentWorld → Store → Shim → Export → Type 0
@@ -103,77 +107,105 @@ module _ {w : ComponentWorld} {earlier : List Def} {c : Scope} {s : Store} {g : 
         held = λ now. argument_held x of.0 (codes "shim") of.2.exports of.1 of.2.present h.named now ∙ ap (λ (l : List Export). Some (codes "shim", l)) found.2;
       }
 
-  -- and main, with the function that initializes it
-  record HoldsMain (name : List ℕ) (x : CoreArgument) : Type 0 where
-    exports : List Export
-    held : (now : Now) → core_argument (machine c s now) x ≡ Some (codes "main", exports)
+  -- and main, with the functions that it offers
+  record HoldsCall (exports : List Export) (name : List ℕ) (type : FuncType) : Type 0 where
     address : ℕ
-    call : IsCall s.code exports name address
+    call : IsCall s.code exports type name address
     exported : IsFunctionExported w s address (record { of = Main; name = name })
 
-  main_held : IsWorld w → (name : List ℕ) → initialize_of w ≡ Some name → (x : CoreArgument) → IsFixupArgument w earlier x (codes "main", sources.Main) → HoldsMain name x
-  main_held ok name first x h =
+  record HoldsMain (x : CoreArgument) : Type 0 where
+    exports : List Export
+    held : (now : Now) → core_argument (machine c s now) x ≡ Some (codes "main", exports)
+    each : (name : List ℕ) (type : FuncType) → found name w.main.offered ≡ Some (externs.Func type) → HoldsCall exports name type
+
+  main_held : (x : CoreArgument) → IsFixupArgument w earlier x (codes "main", sources.Main) → HoldsMain x
+  main_held x h =
       let u : (n : ℕ) × (address_at spaces.CoreInstance x.instance c.items ≡ Some n) × IsUserInstance s 0 (main_module w) n = user_there a (main_module w) refl h.serves in
-      let offered = initialize_offered w ok name first in
-      let e : (e : Export) × (export_named name u.2.exports ≡ Some e) × (e.space ≡ type_space initialize_type) × IsUserItem s u.2.user e initialize_type =
-      offered_there a 0 (main_module w) u.0 u.2 name initialize_type offered in
-      let named : e.0.name ≡ name = found_name name u.2.exports e.0 e.1 in
       record {
         exports = u.2.exports;
         held = argument_held x u.0 (codes "main") u.2.exports u.1 u.2.present h.named;
-        address = e.0.address;
-        call = (e.1 ∙ ap (λ (y : Export). Some y) (by_parts e.0 spaces.CoreFunc name e.2 named), e.3.what, e.3.present);
-        exported = record {
-          number = 0;
-          of = record { world_module = main_module w; listed = refl; same = refl };
-          user = u.2.user;
-          instance = u.2.is;
-          type = thunk;
-          is = subst (λ n. IsOpaqueOf s e.0.address thunk (ExportedBy u.2.user n)) named e.3;
-          offered = offered;
-        };
+        each = λ name type offered.
+            let e : (e : Export) × (export_named name u.2.exports ≡ Some e) × (e.space ≡ type_space (externs.Func type)) × IsUserItem s u.2.user e (externs.Func type) =
+            offered_there a 0 (main_module w) u.0 u.2 name (externs.Func type) offered in
+            let named : e.0.name ≡ name = found_name name u.2.exports e.0 e.1 in
+            record {
+              address = e.0.address;
+              call = (e.1 ∙ ap (λ (y : Export). Some y) (by_parts e.0 spaces.CoreFunc name e.2 named), e.3.what, e.3.present);
+              exported = record {
+                number = 0;
+                of = record { world_module = main_module w; listed = refl; same = refl };
+                user = u.2.user;
+                instance = u.2.is;
+                type = type;
+                is = subst (λ n. IsOpaqueOf s e.0.address type (ExportedBy u.2.user n)) named e.3;
+                offered = offered;
+              };
+            };
       }
 
-  -- what the arguments hold, and which function of main is called
-  pub record HoldsArguments (shims : List Shim) (initialize : Option (List ℕ)) (arguments : List CoreArgument) : Type 0 where
+  -- which functions of main are called at the start, where main exports these
+  pub record HoldsCalls (main : List Export) (initialize hook : Option (List ℕ)) : Type 0 where
+    pub first : Option ℕ
+    pub hooking : Option ℕ
+    pub first_is : IsCallIf s.code main thunk initialize first
+    pub hook_is : IsCallIf s.code main hook_signature hook hooking
+    pub seen : AllZip (IsSeen w s) (events_of (silent_calls first hooking)) (map (λ call. Calls call) (initialization hook initialize))
+
+  no_calls : HoldsCalls [] None None
+  no_calls = record { first = None; hooking = None; first_is = tt; hook_is = tt; seen = tt }
+
+  calls_held : IsWorld w → (x : CoreArgument) (m : HoldsMain x) (initialize hook : Option (List ℕ)) → initialize_of w ≡ initialize → hook_of w ≡ hook → HoldsCalls m.exports initialize hook
+  calls_held ok x m None None first second = record { first = None; hooking = None; first_is = tt; hook_is = tt; seen = tt }
+  calls_held ok x m None (Some hook) first second =
+      let h = m.each hook hook_signature (hook_offered w ok hook second) in
+      record { first = None; hooking = Some h.address; first_is = tt; hook_is = h.call; seen = tt }
+  calls_held ok x m (Some name) None first second =
+      let i = m.each name thunk (initialize_offered w ok name first) in
+      record { first = Some i.address; hooking = None; first_is = i.call; hook_is = tt; seen = ((i.exported, refl), tt) }
+  calls_held ok x m (Some name) (Some hook) first second =
+      let i = m.each name thunk (initialize_offered w ok name first) in
+      let h = m.each hook hook_signature (hook_offered w ok hook second) in
+      record { first = Some i.address; hooking = Some h.address; first_is = i.call; hook_is = h.call; seen = ((h.exported, refl), ((i.exported, refl), ((h.exported, refl), tt))) }
+
+  -- what the arguments hold, and which functions of main are called
+  pub record HoldsArguments (shims : List Shim) (initialize hook : Option (List ℕ)) (arguments : List CoreArgument) : Type 0 where
     pub actual : List Export
     pub filling : AllZip (IsFilling w s) shims actual
     pub at : ShimsAt
     pub made : (shims ≡ [] → ⊥) → a.shims ≡ Some at
     pub main : List Export
-    pub called : List ℕ
-    pub calls : AreCalls s.code main initialize called
-    pub seen : AllZip (IsSeen w s) (map (λ address. Called address []) called) (map (λ call. Calls call) (initialization None initialize))
-    pub held : (now : Now) → all_some (map (core_argument (machine c s now)) arguments) ≡ Some (fixup_arguments shims initialize actual main at.address at.table at.memory (cell_type w))
+    pub calls : HoldsCalls main initialize hook
+    pub held : (now : Now) → all_some (map (core_argument (machine c s now)) arguments) ≡ Some (fixup_arguments shims initialize hook actual main at.address at.table at.memory (cell_type w))
 
   -- no shims
   abbrev nowhere : ShimsAt
   nowhere = record { address = 0; table = 0; memory = None }
 
-  pub arguments_held : IsWorld w → (shims : List Shim) (initialize : Option (List ℕ)) → shims_of w ≡ shims → initialize_of w ≡ initialize → (arguments : List CoreArgument) →
-      AllZip (IsFixupArgument w earlier) arguments (fixup_instances shims initialize) → HoldsArguments shims initialize arguments
-  arguments_held ok [] None same first [] h =
-      record { actual = []; filling = tt; at = nowhere; made = λ any. absurd (any refl); main = []; called = []; calls = refl; seen = tt; held = λ now. refl }
-  arguments_held ok [] None same first (x ∷ xs) h = absurd h
-  arguments_held ok [] (Some name) same first [] h = absurd h
-  arguments_held ok [] (Some name) same first (x ∷ y ∷ more) h = absurd h.1
-  arguments_held ok [] (Some name) same first (x ∷ []) h =
-      let m : HoldsMain name x = main_held ok name first x h.0 in
+  -- main alone, where one of its functions is called
+  alone_held : IsWorld w → (initialize hook : Option (List ℕ)) → initialize_of w ≡ initialize → hook_of w ≡ hook → main_if initialize hook ≡ of_main → (arguments : List CoreArgument) →
+      AllZip (IsFixupArgument w earlier) arguments (of_main ++ []) → HoldsArguments [] initialize hook arguments
+  alone_held ok initialize hook first second any [] h = absurd h
+  alone_held ok initialize hook first second any (x ∷ y ∷ more) h = absurd h.1
+  alone_held ok initialize hook first second any (x ∷ []) h =
+      let m : HoldsMain x = main_held x h.0 in
       record {
         actual = [];
         filling = tt;
         at = nowhere;
-        made = λ any. absurd (any refl);
+        made = λ some. absurd (some refl);
         main = m.exports;
-        called = m.address ∷ [];
-        calls = m.call;
-        seen = ((m.exported, refl), tt);
-        held = λ now. all_more (core_argument (machine c s now)) x [] (codes "main", m.exports) [] (m.held now) refl;
+        calls = calls_held ok x m initialize hook first second;
+        held = λ now.
+            all_more (core_argument (machine c s now)) x [] (codes "main", m.exports) [] (m.held now) refl
+            ∙ ap (λ (l : List (List ℕ × ImportedInstance)). Some (map (λ i. (i.0, exports_given [] m.exports (instance_exports [] 0 0 None (cell_type w)) i.1)) (l ++ []))) (sym any);
       }
-  arguments_held ok (shim ∷ shims) None same first [] h = absurd h
-  arguments_held ok (shim ∷ shims) None same first (x ∷ []) h = absurd h.1
-  arguments_held ok (shim ∷ shims) None same first (x ∷ y ∷ z ∷ more) h = absurd h.1.1
-  arguments_held ok (shim ∷ shims) None same first (x ∷ y ∷ []) h =
+
+  -- what shims stand for, and the shims, where no function of main is called
+  behind_held : IsWorld w → (shim : Shim) (shims : List Shim) → shims_of w ≡ shim ∷ shims → (arguments : List CoreArgument) → AllZip (IsFixupArgument w earlier) arguments (fixup_instances (shim ∷ shims) None None) → HoldsArguments (shim ∷ shims) None None arguments
+  behind_held ok shim shims same [] h = absurd h
+  behind_held ok shim shims same (x ∷ []) h = absurd h.1
+  behind_held ok shim shims same (x ∷ y ∷ z ∷ more) h = absurd h.1.1
+  behind_held ok shim shims same (x ∷ y ∷ []) h =
       let behind : HoldsActual x = actual_held ok x h.0 in
       let own : HoldsShims y = shims_held (λ none. let no : shim ∷ shims ≡ [] = sym same ∙ none in cc) y h.1.0 in
       record {
@@ -182,34 +214,47 @@ module _ {w : ComponentWorld} {earlier : List Def} {c : Scope} {s : Store} {g : 
         at = own.at;
         made = λ any. own.made;
         main = [];
-        called = [];
-        calls = refl;
-        seen = tt;
+        calls = no_calls;
         held = λ now.
             all_more (core_argument (machine c s now)) x (y ∷ []) (codes "actual", behind.exports) ((codes "shim", exports_of_shims w own.at) ∷ []) (behind.held now)
             (all_more (core_argument (machine c s now)) y [] (codes "shim", exports_of_shims w own.at) [] (own.held now) refl)
             ∙ ap (λ l. Some ((codes "actual", behind.exports) ∷ (codes "shim", instance_exports l own.at.address own.at.table own.at.memory (cell_type w)) ∷ [])) same;
       }
-  arguments_held ok (shim ∷ shims) (Some name) same first [] h = absurd h
-  arguments_held ok (shim ∷ shims) (Some name) same first (x ∷ []) h = absurd h.1
-  arguments_held ok (shim ∷ shims) (Some name) same first (x ∷ y ∷ []) h = absurd h.1.1
-  arguments_held ok (shim ∷ shims) (Some name) same first (x ∷ y ∷ z ∷ v ∷ more) h = absurd h.1.1.1
-  arguments_held ok (shim ∷ shims) (Some name) same first (x ∷ y ∷ z ∷ []) h =
+
+  -- and where one is
+  all_held : IsWorld w → (shim : Shim) (shims : List Shim) (initialize hook : Option (List ℕ)) → shims_of w ≡ shim ∷ shims → initialize_of w ≡ initialize → hook_of w ≡ hook → main_if initialize hook ≡ of_main → (arguments : List CoreArgument) →
+      AllZip (IsFixupArgument w earlier) arguments (actual_if (shim ∷ shims) ++ (of_main ++ shim_if (shim ∷ shims))) → HoldsArguments (shim ∷ shims) initialize hook arguments
+  all_held ok shim shims initialize hook same first second any [] h = absurd h
+  all_held ok shim shims initialize hook same first second any (x ∷ []) h = absurd h.1
+  all_held ok shim shims initialize hook same first second any (x ∷ y ∷ []) h = absurd h.1.1
+  all_held ok shim shims initialize hook same first second any (x ∷ y ∷ z ∷ v ∷ more) h = absurd h.1.1.1
+  all_held ok shim shims initialize hook same first second any (x ∷ y ∷ z ∷ []) h =
       let behind : HoldsActual x = actual_held ok x h.0 in
-      let m : HoldsMain name y = main_held ok name first y h.1.0 in
+      let m : HoldsMain y = main_held y h.1.0 in
       let own : HoldsShims z = shims_held (λ none. let no : shim ∷ shims ≡ [] = sym same ∙ none in cc) z h.1.1.0 in
+      let among : List Shim → List (List ℕ × ImportedInstance) → List (List ℕ × List Export) = λ those l. map (λ i. (i.0, exports_given behind.exports m.exports (instance_exports those own.at.address own.at.table own.at.memory (cell_type w)) i.1)) (actual_if (shim ∷ shims) ++ (l ++ shim_if (shim ∷ shims))) in
       record {
         actual = behind.exports;
         filling = subst (λ l. AllZip (IsFilling w s) l behind.exports) same behind.each;
         at = own.at;
         made = λ any. own.made;
         main = m.exports;
-        called = m.address ∷ [];
-        calls = m.call;
-        seen = ((m.exported, refl), tt);
+        calls = calls_held ok y m initialize hook first second;
         held = λ now.
             all_more (core_argument (machine c s now)) x (y ∷ z ∷ []) (codes "actual", behind.exports) ((codes "main", m.exports) ∷ (codes "shim", exports_of_shims w own.at) ∷ []) (behind.held now)
             (all_more (core_argument (machine c s now)) y (z ∷ []) (codes "main", m.exports) ((codes "shim", exports_of_shims w own.at) ∷ []) (m.held now)
             (all_more (core_argument (machine c s now)) z [] (codes "shim", exports_of_shims w own.at) [] (own.held now) refl))
-            ∙ ap (λ l. Some ((codes "actual", behind.exports) ∷ (codes "main", m.exports) ∷ (codes "shim", instance_exports l own.at.address own.at.table own.at.memory (cell_type w)) ∷ [])) same;
+            ∙ ap (λ l. Some (among l of_main)) same
+            ∙ ap (λ l. Some (among (shim ∷ shims) l)) (sym any);
       }
+
+  pub arguments_held : IsWorld w → (shims : List Shim) (initialize hook : Option (List ℕ)) → shims_of w ≡ shims → initialize_of w ≡ initialize → hook_of w ≡ hook → (arguments : List CoreArgument) →
+      AllZip (IsFixupArgument w earlier) arguments (fixup_instances shims initialize hook) → HoldsArguments shims initialize hook arguments
+  arguments_held ok [] None None same first second [] h =
+      record { actual = []; filling = tt; at = nowhere; made = λ any. absurd (any refl); main = []; calls = no_calls; held = λ now. refl }
+  arguments_held ok [] None None same first second (x ∷ xs) h = absurd h
+  arguments_held ok [] None (Some hook) same first second arguments h = alone_held ok None (Some hook) first second refl arguments h
+  arguments_held ok [] (Some name) hook same first second arguments h = alone_held ok (Some name) hook first second refl arguments h
+  arguments_held ok (shim ∷ shims) None None same first second arguments h = behind_held ok shim shims same arguments h
+  arguments_held ok (shim ∷ shims) None (Some hook) same first second arguments h = all_held ok shim shims None (Some hook) same first second refl arguments h
+  arguments_held ok (shim ∷ shims) (Some name) hook same first second arguments h = all_held ok shim shims (Some name) hook same first second refl arguments h

@@ -21,14 +21,13 @@ use Rattle.comp_inventories.specs.Inventories.{inventory}
 use Rattle.core_types.specs.declared.types.MemoryType.{MemoryType}
 use Rattle.comp_terms.specs.Generated.{shims_number, fixup_number, IsFixup, has_shim_module, has_fixup, number_behind, GeneratedBytes, IsShimModule, AreGenerated}
 use Rattle.comp_worlds.specs.Offered.{shared_memory}
-use Rattle.world_shims.specs.WorldShims.{shims_of, type_of_shim, sections_of_shims, sections_of_fixup, initialize_of}
-use Rattle.shim_runs.specs.ShimRuns.{IsOfAddresses, with_cell, with_shims, with_memory, memory_address, ShimsRun, with_slots, FixupRun, HasSlots, AreCalls}
+use Rattle.world_shims.specs.WorldShims.{shims_of, type_of_shim, sections_of_shims, sections_of_fixup, initialize_of, hook_of}
+use Rattle.world_shims.proofs.MainCalls.{calls_unlike}
+use Rattle.shim_runs.specs.ShimRuns.{IsOfAddresses, with_cell, with_shims, with_memory, memory_address, ShimsRun, with_functions, with_slots, FixupRun, HasSlots}
 use Rattle.comp_roles.specs.declared.imports.ImportInstance.{ImportInstance}
 use Rattle.comp_worlds.specs.declared.world.ComponentWorld.{ComponentWorld}
-use Rattle.core_runs.specs.Store.{Event, Instantiated, Called, Now}
+use Rattle.core_runs.specs.Store.{Event, Instantiated, Now}
 use Rattle.core_runs.specs.Starts.{deeds_done}
-use Rattle.core_runs.specs.Values.{Value}
-use Rattle.fixup_modules.specs.Laws.{call_of}
 use Rattle.core_runs.specs.Store as core
 use Rattle.core_runs.specs.Execution.{seen}
 use Rattle.comp_runs.specs.Store.{Thing, Export, ModuleInstance, Store}
@@ -36,14 +35,14 @@ use Rattle.comp_links.specs.Modules.{WorldModule, user_modules}
 use Rattle.comp_links.specs.Lists.{required_keys}
 use Rattle.comp_roles.specs.declared.offered.ImportType.{ImportType}
 use Rattle.comp_terms.specs.Rules.{InstantiatesUser, InstantiatesShims, InstantiatesFixup, InstantiatesModule, instance_number, instances_in, landmark, shims_if, made_before_fixup}
-use Rattle.comp_runs.specs.Machine.{Scope, Machine, Outcome, address_at, is_of, all_some, resumed}
+use Rattle.comp_runs.specs.Machine.{Scope, Machine, address_at, is_of, all_some, resumed}
 use Rattle.comp_runs.specs.Instances.{ExportTypes, exported_by, with_exports, with_module_instance, given_to, new_user, ModuleMeaning, OfUser, OfGenerated}
 use Rattle.comp_runs.specs.Running.{core_argument, run}
 use Rattle.instance_laws.proofs.Held.{KeepsEntries, keeps_same, keeps_more, keeps_grown}
 use Rattle.link_laws.proofs.BaseHeld.{base_grown, made_push, made_fixup}
 use Rattle.link_laws.proofs.BaseRoles.{cell_addresses, module_agreed}
-use Rattle.link_laws.proofs.Outcomes.{machine, types_of_cell, no_answers, IsNow, IsGood, good_answered, last_call, stopped_at, Continues, unseen_continues, Steps, one_more_made, one_event, shims_made, cells, types-cells}
-use Rattle.link_laws.proofs.FixupArguments.{IsFilling, HoldsArguments, arguments_held}
+use Rattle.link_laws.proofs.Outcomes.{machine, types_of_cell, no_answers, asks, IsNow, IsGood, good_answered, stopped_at, Continues, unseen_continues, Steps, one_more_made, one_event, events_of, deeds_of, silent_calls, start_is_silent, calls_go_on, shims_made, cells, types-cells}
+use Rattle.link_laws.proofs.FixupArguments.{IsFilling, HoldsCalls, HoldsArguments, arguments_held}
 use Rattle.link_laws.proofs.Steps.{filter-push, with_thing, numbered_at, given_same, export_beside, not_last, agrees_with}
 use Rattle.shim_runs.proofs.Placed.{shims_kept, cell_kept}
 use Rattle.shim_runs.proofs.ShimInstance.{shims_run, shim_table_there, shim_tables_kept, shim_memories_kept}
@@ -61,7 +60,7 @@ use Rattle.link_laws.proofs.Zips.{all_some-each}
 use Rattle.link_laws.proofs.Stores.{ShimsAt, exports_of_shims, HasSharedMemory, IsFilledWith, AreFilled, AreShimsFilled, IsReady, AreShims, ExportsShims, MayHaveShims, IsPlanned, IsPlannedUser, NumberedFrom, AreResources, HasGlobalType, HasGlobals, HasTable, IsOwnTable, IsOwnIfTable, HasOwnTables, Agrees, Made, Calls, calls_if, expected_of, expects, IsSeen}
 use Rattle.link_laws.proofs.Given.{user_below, apart, not_shims, not_fixup, address_there, fixup_behind}
 use Rattle.link_laws.proofs.GivenImports.{IsOffered, arguments_there, given_there}
-use Rattle.link_laws.proofs.Plain.{only, nothing_in, IsRightModule, module_right, IsGivenImport, given_imports, no_hook}
+use Rattle.link_laws.proofs.Plain.{only, nothing_in, IsRightModule, module_right, IsGivenImport, given_imports}
 use Rattle.link_laws.proofs.UserExports.{Exports, Alike, IsFreshTable, IsFreshIfTable, each_table, all_exports, all_foreign, all_alike, same_exports, each_export, all_globals, each_global}
 use Rattle.link_laws.proofs.Kept.{sizes_kept, sizes_set, HasGlobals-kept, HasOwnTables-kept, HasSharedMemory-kept, IsFilledWith-kept, ShimsKept, shims_same, MayHaveShims-kept, Keeps, things_kept, IsPlannedUser-kept, AreKeyExports-kept, AreResources-kept, AreSeen-kept, KeepsSizes}
 
@@ -71,7 +70,7 @@ use Rattle.link_laws.proofs.Kept.{sizes_kept, sizes_set, HasGlobals-kept, HasOwn
 abbrev pub generated_for : ComponentWorld → Bool → GeneratedBytes → GeneratedModules
 generated_for w debug_names b = record {
   shims = option_map (λ bytes. sections_of_shims (shared_memory w) (cell_type w) (shims_of w) debug_names) b.shims;
-  fixup = option_map (λ bytes. sections_of_fixup (shims_of w) (initialize_of w) debug_names) b.fixup;
+  fixup = option_map (λ bytes. sections_of_fixup (shims_of w) (initialize_of w) (hook_of w) debug_names) b.fixup;
 }
 
 -- they are those of the list
@@ -115,11 +114,11 @@ shims_meaning w gen h has =
 abbrev meanings : ComponentWorld → Bool → Option (List ℕ) → Option (List ℕ) → List ModuleMeaning
 meanings w debug_names shims fixup = map (λ ss. OfGenerated ss) (generated_sections (generated_for w debug_names (record { shims = shims; fixup = fixup })))
 
-fixup_meaning : (w : ComponentWorld) (gen : GeneratedModules) (h : IsGenerated w gen) → has_fixup w ≡ true → slice_get (module_meanings w gen) (fixup_number w) ≡ Some (OfGenerated (sections_of_fixup (shims_of w) (initialize_of w) h.debug_names))
+fixup_meaning : (w : ComponentWorld) (gen : GeneratedModules) (h : IsGenerated w gen) → has_fixup w ≡ true → slice_get (module_meanings w gen) (fixup_number w) ≡ Some (OfGenerated (sections_of_fixup (shims_of w) (initialize_of w) (hook_of w) h.debug_names))
 fixup_meaning w gen h any = ap (λ x. meaning_at (user_modules w) x (fixup_number w)) h.is ∙ by (has_shim_module w) h.bytes.shims h.bytes.fixup refl any h.are.shims h.are.fixup
   where
     by : (has : Bool) (shims behind : Option (List ℕ)) → has_shim_module w ≡ has → has_fixup w ≡ true → IsShimModule w h.debug_names shims → IsFixup w h.debug_names behind →
-        meaning_at (user_modules w) (generated_for w h.debug_names (record { shims = shims; fixup = behind })) (number_behind has (shims_number w)) ≡ Some (OfGenerated (sections_of_fixup (shims_of w) (initialize_of w) h.debug_names))
+        meaning_at (user_modules w) (generated_for w h.debug_names (record { shims = shims; fixup = behind })) (number_behind has (shims_number w)) ≡ Some (OfGenerated (sections_of_fixup (shims_of w) (initialize_of w) (hook_of w) h.debug_names))
     by true (Some bytes) (Some behind) is any s f = second_behind meaning_of_user (user_modules w) (meanings w h.debug_names (Some bytes) (Some behind))
     by false None (Some behind) is any s f = first_behind meaning_of_user (user_modules w) (meanings w h.debug_names None (Some behind))
     by true None (Some behind) is any s f = cc
@@ -247,8 +246,6 @@ same_answers None now = refl
 same_answers (Some type) now = refl
 
 -- the events of calls of these functions
-abbrev calls_seen : List ℕ → List Event
-calls_seen called = map (λ address. Called address []) called
 
 module _ {w : ComponentWorld} {earlier : List Def} {c : Scope} {s : Store} {g : List ValType} (a : Agrees w earlier c s g) (gen : GeneratedModules) where
   -- a core module has the address of its number
@@ -491,8 +488,8 @@ module _ {w : ComponentWorld} {earlier : List Def} {c : Scope} {s : Store} {g : 
       numbers : List ℕ
       numbers = flat_map (at_root item_instantiates) earlier
 
-      those : HoldsArguments a shims (initialize_of w) arguments
-      those = arguments_held a ok shims (initialize_of w) refl refl arguments h.given
+      those : HoldsArguments a shims (initialize_of w) (hook_of w) arguments
+      those = arguments_held a ok shims (initialize_of w) (hook_of w) refl refl refl arguments h.given
 
       at : ShimsAt
       at = those.at
@@ -512,33 +509,39 @@ module _ {w : ComponentWorld} {earlier : List Def} {c : Scope} {s : Store} {g : 
       slotted : (shims ≡ [] → ⊥) → HasSlots s.code at.table shims
       slotted any = record { slots = empty_table (length shims); present = (before any).unfilled any first; size = length-replicate (length shims) None }
 
-      r : (called : List ℕ) → AreCalls s.code those.main (initialize_of w) called → FixupRun shims (initialize_of w) there.debug_names actual those.main at.address at.table at.memory (cell_type w) called (fixup_number w) c s
-      r called calls = fixup_run shims (initialize_of w) there.debug_names actual those.main at.address at.table at.memory (cell_type w) called (fixup_number w) c s (record {
+      calls : HoldsCalls a those.main (initialize_of w) (hook_of w)
+      calls = those.calls
+
+      r : FixupRun shims (initialize_of w) (hook_of w) there.debug_names actual those.main at.address at.table at.memory (cell_type w) calls.first calls.hooking (fixup_number w) c s
+      r = fixup_run shims (initialize_of w) (hook_of w) there.debug_names actual those.main at.address at.table at.memory (cell_type w) calls.first calls.hooking (fixup_number w) c s (record {
         numbered = shims_numbered w;
         room = there.are.room;
         each = AllZip-weaker (λ shim e f. f.0) shims actual those.filling;
         slotted = slotted;
-        calls = calls;
+        unlike = calls_unlike w ok;
+        first_is = calls.first_is;
+        hook_is = calls.hook_is;
       })
 
-      instance_with : (called : List ℕ) → AreCalls s.code those.main (initialize_of w) called → ModuleInstance
-      instance_with called calls = record { module_number = fixup_number w; given = (r called calls).given; exports = [] }
-
       instance : ModuleInstance
-      instance = instance_with those.called those.calls
+      instance = record { module_number = fixup_number w; given = r.given; exports = [] }
 
       t : Thing
       t = record { space = spaces.CoreInstance; address = length s.core_instances }
 
       -- the store when its start function is called, and after it
       filled : Store
-      filled = record s { code = with_slots shims at.table actual s.code }
-
-      after : (called : List ℕ) → AreCalls s.code those.main (initialize_of w) called → Store
-      after called calls = record filled { core_instances = s.core_instances ++ [] ∷ []; module_instances = s.module_instances ++ instance_with called calls ∷ [] }
+      filled = record s { code = with_functions r.own (with_slots shims at.table actual s.code) }
 
       s' : Store
-      s' = after those.called those.calls
+      s' = record filled { core_instances = s.core_instances ++ [] ∷ []; module_instances = s.module_instances ++ instance ∷ [] }
+
+      -- the functions stay, and the module's own is new
+      functions_grown : filled.code.functions ≡ s.code.functions ++ r.own
+      functions_grown = ap (λ l. l ++ r.own) (functions_left at.table actual s.code shims)
+
+      function_kept : (i : ℕ) (f : core.Func) → slice_get s.code.functions i ≡ Some f → slice_get filled.code.functions i ≡ Some f
+      function_kept i f e = ap (λ l. slice_get l i) functions_grown ∙ slice_get-append s.code.functions r.own i f e
 
       tables_kept : KeepsSizes s.code.tables filled.code.tables
       tables_kept = sizes_left at.table actual s.code shims (sym (length-AllZip (IsFilling w s) shims actual those.filling)) slotted
@@ -546,7 +549,7 @@ module _ {w : ComponentWorld} {earlier : List Def} {c : Scope} {s : Store} {g : 
       k_filled : Keeps c.items c.items s filled
       k_filled = record {
         things = λ space i x e. e;
-        code = keeps_same (functions_left at.table actual s.code shims);
+        code = keeps_grown s.code.functions filled.code.functions r.own functions_grown;
         tables = tables_kept;
         memories = keeps_same (memories_left at.table actual s.code shims);
         known = keeps_same refl;
@@ -561,7 +564,7 @@ module _ {w : ComponentWorld} {earlier : List Def} {c : Scope} {s : Store} {g : 
       k : Keeps c.items (c.items ++ t ∷ []) s s'
       k = record {
         things = things_kept c.items t s;
-        code = keeps_same (functions_left at.table actual s.code shims);
+        code = keeps_grown s.code.functions filled.code.functions r.own functions_grown;
         tables = tables_kept;
         memories = keeps_same (memories_left at.table actual s.code shims);
         known = keeps_same refl;
@@ -596,7 +599,7 @@ module _ {w : ComponentWorld} {earlier : List Def} {c : Scope} {s : Store} {g : 
       forwards : (o : Option ShimsAt) → a.shims ≡ o → MayHaveShims w s numbers o → AreShimsFilled w filled o
       forwards None is with_none = with_none
       forwards (Some now) is with_shims = (
-        shims_kept s.code filled.code (λ i f e. ap (λ l. slice_get l i) (functions_left at.table actual s.code shims) ∙ e) now.table 0 now.address shims with_shims.made,
+        shims_kept s.code filled.code function_kept now.table 0 now.address shims with_shims.made,
         λ any. subst (λ (x : ShimsAt). AreFilled w filled x.table) (same_Some at now (sym (those.made any) ∙ is)) (is_filled c.items filled k_filled refl any),
         with_shims.room,
         with_shims.exported,
@@ -617,8 +620,8 @@ module _ {w : ComponentWorld} {earlier : List Def} {c : Scope} {s : Store} {g : 
             there = Contains-append_left numbers (fixup_number w ∷ []) (shims_number w) with_shims.there;
             any = with_shims.any;
             room = with_shims.room;
-            made = shims_kept s.code s'.code (λ i f e. ap (λ l. slice_get l i) (functions_left at.table actual s.code shims) ∙ e) now.table 0 now.address shims with_shims.made;
-            of_cell = cell_kept s.code s'.code (λ i f e. ap (λ l. slice_get l i) (functions_left at.table actual s.code shims) ∙ e) (cell_type w) 0 (now.address + length (shims_of w)) with_shims.of_cell;
+            made = shims_kept s.code s'.code function_kept now.table 0 now.address shims with_shims.made;
+            of_cell = cell_kept s.code s'.code function_kept (cell_type w) 0 (now.address + length (shims_of w)) with_shims.of_cell;
             exported = AllByRecursion-push (ExportsShims w (Some now)) s.module_instances instance with_shims.exported
                 (λ e. let same : suc (shims_number w) ≡ shims_number w = sym (fixup_behind w with_shims.any) ∙ e in absurd (omega (arith, same)));
             memory = HasSharedMemory-kept k (shared_memory w) now.memory with_shims.memory;
@@ -640,49 +643,45 @@ module _ {w : ComponentWorld} {earlier : List Def} {c : Scope} {s : Store} {g : 
                 apart = t.apart;
               }
 
-      -- main is initialized, and nothing else is called
-      runs_to : (called : List ℕ) (calls : AreCalls s.code those.main (initialize_of w) called) (rest : List Def) (now : Now) →
-          run (module_meanings w gen) (d ∷ rest) (machine c s now) ≡ resumed (deeds_done (map call_of called) now) (machine c filled now) (λ values m. run (module_meanings w gen) rest (with_module_instance (instance_with called calls) m))
-      runs_to called calls rest now =
-          rw (module_address (fixup_number w) (subst (λ n. n < items_in spaces.CoreModule earlier) h.numbered h.scoped), fixup_meaning w gen there h.any, those.held now) ((r called calls).runs now (run (module_meanings w gen) rest))
+      seen_here : List Event
+      seen_here = events_of (silent_calls calls.first calls.hooking)
 
-      goes_on : (called : List ℕ) (calls : AreCalls s.code those.main (initialize_of w) called) → Continues w gen d c s g (with_thing c t c.imports) (after called calls) g (calls_seen called)
-      goes_on [] calls =
-          unseen_continues w gen d c s g (with_thing c t c.imports) (after [] calls) g (λ now. now) (λ now. refl)
-          (λ es now is_now. one_more_made w s.module_instances (instance_with [] calls) es g now (made_fixup w s.module_instances (instance_with [] calls) refl) is_now)
-          (λ es rest now is_now. runs_to [] calls rest now)
-      goes_on (address ∷ []) calls =
-          λ e u n events later questions rest go now at_now.
-          let event : Event = Called address [] in
-          let next : List Value → Machine → Outcome = λ values m. run (module_meanings w gen) rest (with_module_instance (instance_with (address ∷ []) calls) m) in
-          subst (IsGood w e u n (events ++ (event ∷ later)) ([] ∷ questions) now.answers) (sym (runs_to (address ∷ []) calls rest now ∙ last_call now.answers (seen now event) (machine c filled now) next))
-          (good_answered w e u n (events ++ (event ∷ later)) questions now.answers (seen now event) (machine c filled now) (λ values m. next [] m)
-          (λ stopped same. stopped_at w event events later g now stopped c filled at_now same (inr ready))
-          (λ values later_now same_events same_moments same_globals kept.
-          let is_now : IsNow w (after (address ∷ []) calls).module_instances (events ++ event ∷ []) g later_now =
-          one_event w s.module_instances (instance_with (address ∷ []) calls) event events g g now later_now (made_fixup w s.module_instances (instance_with (address ∷ []) calls) refl) at_now same_events same_moments (same_globals ∙ at_now.globals) kept in
-          subst (λ l. IsGood w e u n l questions later_now.answers (run (module_meanings w gen) rest (machine (with_thing c t c.imports) (after (address ∷ []) calls) later_now))) (append_assoc events (event ∷ []) later)
-          (go later_now is_now)))
-      goes_on (x ∷ y ∷ more) calls = absurd (at_most_one (initialize_of w) calls)
-        where
-          at_most_one : (o : Option (List ℕ)) → AreCalls s.code those.main o (x ∷ y ∷ more) → ⊥
-          at_most_one None none = cc
-          at_most_one (Some name) two = two
+      -- main was instantiated before
+      some_before : (b : Bool) → shims_if w b ++ range_with_len 0 (length (user_modules w)) ≡ [] → ⊥
+      some_before true none = cc
+      some_before false none = cc
 
-      is_expected : expects w d ≡ map (λ call. Calls call) (initialization None (initialize_of w))
-      is_expected =
-          append-nil (expected_of w (fixup_number w))
-          ∙ (expected_fixup w ∙ ap (λ hook. map (λ call. Calls call) (initialization hook (initialize_of w))) (no_hook w w.main.exports.exports ok.main.export_roles))
+      some_made : s.module_instances ≡ [] → ⊥
+      some_made none =
+          let no_numbers : numbers ≡ [] = sym a.instantiated ∙ ap (λ l. map (λ (u : ModuleInstance). u.module_number) l) none in
+          some_before (has_shim_module w) (sym h.last ∙ (numbers_of earlier ∙ no_numbers))
 
-      seen_here : AllZip (IsSeen w s') (calls_seen those.called) (expects w d)
-      seen_here = subst (AllZip (IsSeen w s') (calls_seen those.called)) (sym is_expected) (AreSeen-kept k w (calls_seen those.called) (map (λ call. Calls call) (initialization None (initialize_of w))) those.seen)
+      -- main is initialized, with its task hook round that, and nothing else is called
+      runs_to : (rest : List Def) (now : Now) →
+          run (module_meanings w gen) (d ∷ rest) (machine c s now) ≡ resumed (deeds_done (deeds_of (silent_calls calls.first calls.hooking)) now) (machine c filled now) (λ values m. run (module_meanings w gen) rest (with_module_instance instance m))
+      runs_to rest now =
+          rw (module_address (fixup_number w) (subst (λ n. n < items_in spaces.CoreModule earlier) h.numbered h.scoped), fixup_meaning w gen there h.any, those.held now) (r.runs now (run (module_meanings w gen) rest))
+          ∙ ap (λ l. resumed (deeds_done l now) (machine c filled now) (λ values m. run (module_meanings w gen) rest (with_module_instance instance m))) (start_is_silent calls.first calls.hooking)
+
+      goes_on : Continues w gen d c s g (with_thing c t c.imports) s' g seen_here
+      goes_on e u n events later questions rest go now at_now =
+          subst (IsGood w e u n (events ++ (seen_here ++ later)) (asks seen_here ++ questions) now.answers) (sym (runs_to rest now))
+          (calls_go_on w e u n questions c filled g some_made ready (λ m. run (module_meanings w gen) rest (with_module_instance instance m)) later (silent_calls calls.first calls.hooking) events
+          (λ then is_then. go then (one_more_made w s.module_instances instance (events ++ seen_here) g then (made_fixup w s.module_instances instance refl) is_then))
+          now at_now)
+
+      is_expected : expects w d ≡ map (λ call. Calls call) (initialization (hook_of w) (initialize_of w))
+      is_expected = append-nil (expected_of w (fixup_number w)) ∙ expected_fixup w
+
+      all_seen : AllZip (IsSeen w s') seen_here (expects w d)
+      all_seen = subst (AllZip (IsSeen w s') seen_here) (sym is_expected) (AreSeen-kept k w seen_here (map (λ call. Calls call) (initialization (hook_of w) (initialize_of w))) calls.seen)
 
       steps : Steps w gen earlier c s g a.events d
       steps = (
         with_thing c t c.imports,
         s',
         g,
-        record { seen = calls_seen those.called; continues = goes_on those.called those.calls },
+        record { seen = seen_here; continues = goes_on },
         agrees_with a gen d (with_thing c t c.imports) s' g t a.shims here refl k
             (record {
               space = refl;
@@ -708,8 +707,8 @@ module _ {w : ComponentWorld} {earlier : List Def} {c : Scope} {s : Store} {g : 
             (AreKeyExports-kept w k (required_keys w) c.exports a.lifted)
             a.imports
             a.resources
-            (calls_seen those.called)
-            seen_here,
+            seen_here
+            all_seen,
       )
 
   -- ---- any of these

@@ -13,6 +13,7 @@ use Rattle.std.specs.List.{slice_get, flat_map, AllByRecursion, AllZip, IsDistin
 use Rattle.core_types.specs.declared.types.FuncType.{FuncType}
 use Rattle.core_types.specs.declared.types.MemoryType.{MemoryType}
 use Rattle.core_types.specs.declared.types.ValType.{ValType}
+use Rattle.core_bytes.specs.declared.code.Body.{Body}
 use Rattle.core_bytes.specs.declared.entry.Export.{Export}
 use Rattle.core_bytes.specs.declared.entry.Import.{Import}
 use Rattle.core_bytes.specs.declared.section.Section.{Section}
@@ -32,15 +33,17 @@ use Rattle.comp_worlds.specs.declared.world.ComponentWorld.{ComponentWorld}
 use Rattle.shim_modules.specs.Shims as shims
 use Rattle.shim_modules.specs.declared.shims.ShimFunction.{ShimFunction}
 use Rattle.shim_modules.specs.declared.shims.ThreadCell.{ThreadCell}
+use Rattle.fixup_modules.specs.declared.wrappers.Wrapper.{Wrapper}
 use Rattle.fixup_modules.specs.Fixups.{Fixup}
 use Rattle.fixup_modules.specs.Sections as fixups
 use Rattle.interned_types.specs.Interning.{interned}
 use Rattle.shim_plan.specs.declared.shims.Shim.{Shim}
-use Rattle.world_shims.specs.WorldShims.{shims_of, initialize_of, type_of_shim, types_with, functions_of, with_cell_types, cell_of, sections_of_shims, fixup_of}
+use Rattle.world_shims.specs.WorldShims.{shims_of, initialize_of, hook_of, type_of_shim, types_with, functions_of, with_cell_types, cell_of, sections_of_shims, fixup_of}
 use Rattle.shim_runs.proofs.Exported.{no_memory_name, no_getter_name, no_setter_name}
 use Rattle.shim_runs.proofs.FixupInstance.{no_exports}
 use Rattle.shim_runs.proofs.ShimInstance.{exports_alone}
 use Rattle.world_shims.proofs.Digits.{other_digits}
+use Rattle.world_shims.proofs.FixupImports.{unwrapped}
 use Rattle.comp_terms.specs.Generated.{GeneratedBytes, AreGenerated}
 use Rattle.comp_links.specs.Targets.{UserModule}
 use Rattle.comp_links.specs.Modules.{WorldModule, user_modules}
@@ -72,35 +75,46 @@ shims_in_order None (Some c) types (f ∷ fs) debug_names = (omega arith, (omega
 shims_in_order (Some type) (Some c) types (f ∷ fs) debug_names =
     (omega arith, (omega arith, (omega arith, (omega arith, (omega arith, (omega arith, (omega arith, shim_names_last 10 debug_names (Some c) (f ∷ fs))))))))
 
-fixup_names_last : (id : ℕ) (debug_names : Bool) (entries : List Import) (own : Option ℕ) → AreSectionsAfter id debug_names (fixups.names_of debug_names entries own)
-fixup_names_last id false entries own = refl
-fixup_names_last id true entries own = (refl, refl)
+fixup_names_last : (debug_names : Bool) (entries : List Import) (wrappers : List Wrapper) (own : Option ℕ) (id : ℕ) → AreSectionsAfter id debug_names (fixups.names_of debug_names entries wrappers own)
+fixup_names_last false entries wrappers own id = refl
+fixup_names_last true entries wrappers own id = (refl, refl)
 
-module _ (types : List FuncType) (entries : List Import) (fills calls : List ℕ) (debug_names : Bool) (named : Option ℕ) where
-  fixup_with_parts : Option ℕ → Option ℕ → Option ℕ → List Section
-  fixup_with_parts own first table =
-      sections.Types types
-      ∷ sections.Imports entries
-      ∷ (fixups.optional (λ type. sections.Functions (type ∷ [])) own
-      ++ (fixups.optional (λ function. sections.Start function) first
-      ++ (fixups.optional (λ t. sections.Elements (fixups.fill_segment t fills ∷ [])) table
-      ++ (fixups.optional (λ type. sections.Code (fixups.calling calls ∷ [])) own
-      ++ fixups.names_of debug_names entries named))))
+module _ (debug_names : Bool) (names : List Section) (last : (id : ℕ) → AreSectionsAfter id debug_names names) where
+  bodies_in_order : (bodies : List Body) (id : ℕ) → id < 10 → AreSectionsAfter id debug_names (fixups.section_if sections.Code bodies ++ names)
+  bodies_in_order [] id less = last id
+  bodies_in_order (b ∷ bs) id less = (less, last 10)
 
-  parts_in_order : (own first table : Option ℕ) → AreSectionsAfter 0 debug_names (fixup_with_parts own first table)
-  unfolding fixup_with_parts
-  parts_in_order None None None = (omega arith, (omega arith, fixup_names_last 2 debug_names entries named))
-  parts_in_order None None (Some table) = (omega arith, (omega arith, (omega arith, fixup_names_last 9 debug_names entries named)))
-  parts_in_order None (Some first) None = (omega arith, (omega arith, (omega arith, fixup_names_last 8 debug_names entries named)))
-  parts_in_order None (Some first) (Some table) = (omega arith, (omega arith, (omega arith, (omega arith, fixup_names_last 9 debug_names entries named))))
-  parts_in_order (Some own) None None = (omega arith, (omega arith, (omega arith, (omega arith, fixup_names_last 10 debug_names entries named))))
-  parts_in_order (Some own) None (Some table) = (omega arith, (omega arith, (omega arith, (omega arith, (omega arith, fixup_names_last 10 debug_names entries named)))))
-  parts_in_order (Some own) (Some first) None = (omega arith, (omega arith, (omega arith, (omega arith, (omega arith, fixup_names_last 10 debug_names entries named)))))
-  parts_in_order (Some own) (Some first) (Some table) = (omega arith, (omega arith, (omega arith, (omega arith, (omega arith, (omega arith, fixup_names_last 10 debug_names entries named))))))
+  segments_in_order : (bodies : List Body) (fills : List ℕ) (table : Option ℕ) (id : ℕ) → id < 9 → AreSectionsAfter id debug_names (fixups.optional (λ t. sections.Elements (fixups.fill_segment t fills ∷ [])) table ++ (fixups.section_if sections.Code bodies ++ names))
+  segments_in_order bodies fills None id less = bodies_in_order bodies id (omega (arith, less))
+  segments_in_order bodies fills (Some t) id less = (less, bodies_in_order bodies 9 (omega arith))
 
-fixup_in_order : (f : Fixup) (debug_names : Bool) → AreSectionsAfter 0 debug_names (fixups.fixup_sections f debug_names)
-unfolding fixup_with_parts
-fixup_in_order f debug_names = parts_in_order (fixups.types_of f) (fixups.all_imported f).entries f.fills f.calls debug_names (fixups.own_function f) (fixups.own_type f) (fixups.start_function f) (fixups.table_of f)
+module _ (f : Fixup) (debug_names : Bool) where
+  abbrev names : List Section
+  names = fixups.names_of debug_names (fixups.all_imported f).entries f.wrappers (fixups.own_function f)
+
+  abbrev filling : List Section
+  filling = fixups.optional (λ t. sections.Elements (fixups.fill_segment t f.fills ∷ [])) (fixups.table_of f) ++ (fixups.section_if sections.Code (fixups.bodies_of f) ++ names)
+
+  filling_in_order : (id : ℕ) → id < 9 → AreSectionsAfter id debug_names filling
+  filling_in_order id less = segments_in_order debug_names names (λ k. fixup_names_last debug_names (fixups.all_imported f).entries f.wrappers (fixups.own_function f) k) (fixups.bodies_of f) f.fills (fixups.table_of f) id less
+
+  starting_in_order : (first : Option ℕ) (id : ℕ) → id < 8 → AreSectionsAfter id debug_names (fixups.optional (λ function. sections.Start function) first ++ filling)
+  starting_in_order None id less = filling_in_order id (omega (arith, less))
+  starting_in_order (Some function) id less = (less, filling_in_order 8 (omega arith))
+
+  abbrev starting : List Section
+  starting = fixups.optional (λ function. sections.Start function) (fixups.start_function f) ++ filling
+
+  exports_in_order : (es : List Export) (id : ℕ) → id < 7 → AreSectionsAfter id debug_names (fixups.section_if sections.Exports es ++ starting)
+  exports_in_order [] id less = starting_in_order (fixups.start_function f) id (omega (arith, less))
+  exports_in_order (e ∷ es) id less = (less, starting_in_order (fixups.start_function f) 7 (omega arith))
+
+  functions_in_order : (types : List ℕ) → AreSectionsAfter 2 debug_names (fixups.section_if sections.Functions types ++ (fixups.section_if sections.Exports (fixups.exports_of f) ++ starting))
+  functions_in_order [] = exports_in_order (fixups.exports_of f) 2 (omega arith)
+  functions_in_order (t ∷ ts) = (omega arith, exports_in_order (fixups.exports_of f) 3 (omega arith))
+
+  fixup_in_order : AreSectionsAfter 0 debug_names (fixups.fixup_sections f debug_names)
+  fixup_in_order = (omega arith, (omega arith, functions_in_order (fixups.function_types f)))
 
 -- ---- exports
 
@@ -201,13 +215,13 @@ are_shims memory cell ss debug_names room =
       declared = shims_declared memory own types fs debug_names;
     }
 
-are_fixup : (ss : List Shim) (initialize : Option (List ℕ)) (debug_names : Bool) → AreSections debug_names (fixups.fixup_sections (fixup_of ss initialize) debug_names)
-are_fixup ss initialize debug_names =
-    let f : Fixup = fixup_of ss initialize in
+are_fixup : (ss : List Shim) (initialize hook : Option (List ℕ)) (debug_names : Bool) → AreSections debug_names (fixups.fixup_sections (fixup_of ss initialize hook) debug_names)
+are_fixup ss initialize hook debug_names =
+    let f : Fixup = fixup_of ss initialize hook in
     record {
       ordered = fixup_in_order f debug_names;
-      once = subst (λ es. IsDistinct bytes_eq (names_in es)) (sym (no_exports f debug_names)) none_apart;
-      typed = fixup_typed f debug_names (fixup_imported ss initialize);
+      once = subst (λ es. IsDistinct bytes_eq (names_in es)) (sym (no_exports f debug_names (unwrapped ss initialize hook))) none_apart;
+      typed = fixup_typed f debug_names (fixup_imported ss initialize hook);
       declared = fixup_declared f debug_names;
     }
 
@@ -216,7 +230,7 @@ sections_in_order w debug_names g h = by g.shims g.fixup
   where
     fixup : (o : Option (List ℕ)) → AllByRecursion (AreSections debug_names) (generated_sections (generated_for w debug_names (record { shims = None; fixup = o })))
     fixup None = tt
-    fixup (Some bytes) = (are_fixup (shims_of w) (initialize_of w) debug_names, tt)
+    fixup (Some bytes) = (are_fixup (shims_of w) (initialize_of w) (hook_of w) debug_names, tt)
 
     by : (o p : Option (List ℕ)) → AllByRecursion (AreSections debug_names) (generated_sections (generated_for w debug_names (record { shims = o; fixup = p })))
     by None p = fixup p

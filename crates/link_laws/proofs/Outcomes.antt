@@ -1,5 +1,5 @@
 -- How a definition goes on from one state of a run to the next, whatever is answered, and what is seen of it.
-use Rattle.std.proofs.Common.{◌⊎◌, ◌+◌, ◌≡◌, ◌∙◌, ℕ, suc, false, Option, Some, None, List, [], ◌∷◌, ◌++◌, length, map, filter, refl, sym, ap, ap₂, subst, append-nil, length-append, add-one, IsTrue}
+use Rattle.std.proofs.Common.{◌⊎◌, inr, append_assoc, ◌+◌, ◌≡◌, ◌∙◌, ℕ, suc, false, Option, Some, None, List, [], ◌∷◌, ◌++◌, length, map, filter, refl, sym, ap, ap₂, subst, append-nil, length-append, add-one, IsTrue}
 use Rattle.std.proofs.Math.Dec.{ltb}
 use Rattle.std.proofs.lemmas.List.{map-append}
 use Rattle.std.specs.List.{AllByRecursion}
@@ -9,13 +9,18 @@ use Rattle.comp_bytes.specs.declared.def.Def.{Def}
 use Rattle.comp_worlds.specs.declared.world.ComponentWorld.{ComponentWorld}
 use Rattle.comp_links.specs.Modules.{user_modules}
 use Rattle.core_types.specs.declared.types.ValType.{ValType}
+use Rattle.core_types.specs.declared.types.ValType.TheVariants.{I32}
+use Rattle.core_runs.specs.declared.bracket.TaskHook.{TaskHook}
+use Rattle.core_runs.specs.declared.bracket.TaskHook.TheVariants.{InitializeStart, InitializeFinish}
+use Rattle.core_runs.specs.Hooks.{hook_number}
 use Rattle.core_runs.specs.Values.{Value, I32Value, I64Value, zero_of}
 use Rattle.core_runs.specs.Instances.{type_of}
-use Rattle.core_runs.specs.Store.{Answer, Gives, Traps, Event, Instantiated, Now, Cell, Kept, Foreign}
+use Rattle.core_runs.specs.Starts.{Deed, Calls, deeds_done}
+use Rattle.core_runs.specs.Store.{Answer, Gives, Traps, Event, Instantiated, Called, Now, Cell, Kept, Foreign}
 use Rattle.core_runs.specs.Store as core
 use Rattle.core_runs.specs.Execution.{and_then, answered, seen, renewed}
 use Rattle.comp_terms.specs.Generated.{shims_number}
-use Rattle.shim_runs.specs.ShimRuns.{IsOfAddresses, with_cell}
+use Rattle.shim_runs.specs.ShimRuns.{IsOfAddresses, with_cell, start_deeds}
 use Rattle.comp_runs.specs.Store.{ModuleInstance, Store}
 use Rattle.comp_runs.specs.Machine.{Scope, Machine, Outcome, Done, Trapped, Open, Stuck, resumed}
 use Rattle.comp_runs.specs.Running.{run}
@@ -111,14 +116,6 @@ good_answered w c s g es questions (Gives (v ∷ values) number ∷ answers) now
   where
     no : IsTrue false → ⊥
     no e = cc
-
--- where such a call is the last of a start function, that function returns nothing
-pub last_call : (answers : List Answer) (now : Now) (m : Machine) (next : List Value → Machine → Outcome) →
-    resumed (and_then (answered [] answers now) (λ results after. core.Returned [] after)) m next ≡ resumed (answered [] answers now) m (λ values after. next [] after)
-last_call [] now m next = refl
-last_call (Traps ∷ answers) now m next = refl
-last_call (Gives [] number ∷ answers) now m next = refl
-last_call (Gives (v ∷ values) number ∷ answers) now m next = refl
 
 -- A definition runs with these events, and the rest is run from this scope, this store and globals of these types.
 abbrev pub Continues : (w : ComponentWorld) (gen : GeneratedModules) (d : Def) (c : Scope) (s : Store) (g : List ValType) (c' : Scope) (s' : Store) (g' : List ValType) → List Event → Type 0
@@ -250,3 +247,94 @@ pub types-cells : (types : List ValType) → map type_of (cells types) ≡ types
 unfolding cells
 types-cells [] = refl
 types-cells (t ∷ types) = ap (λ ts. t ∷ ts) (types-cells types)
+
+-- ---- calls that return nothing
+
+-- one event more, where something was instantiated before
+pub event_more : (w : ComponentWorld) (users : List ModuleInstance) (event : Event) (es : List Event) (g : List ValType) (now after : Now) → (users ≡ [] → ⊥) → IsNow w users es g now →
+    after.events ≡ (seen now event).events → after.moments ≡ (seen now event).moments → map type_of after.globals ≡ map type_of now.globals → ((o : Option ValType) → BaseIn o now.globals → BaseIn o after.globals) → IsNow w users (es ++ event ∷ []) g after
+event_more w users event es g now after some at events moments count kept = record {
+  events = events ∙ ap (λ l. l ++ event ∷ []) at.events;
+  moments = ap (λ (l : List (List Cell)). length l) moments ∙ (length-append now.moments (now.globals ∷ []) ∙ (ap (λ n. n + 1) at.moments ∙ sym (length-append es (event ∷ []))));
+  globals = count ∙ at.globals;
+  base = kept (cell_made w users) at.base;
+  zero_yet = λ none. some_made es event none;
+  bases = subst (AllByRecursion (BaseIn (cell_made w users))) (sym moments) (AllByRecursion-push (BaseIn (cell_made w users)) now.moments now.globals at.bases at.base);
+  unmade = λ none. absurd (some none);
+}
+
+-- a call of an opaque function that returns nothing, by its address and its parameters; as a deed, and as an event
+pub record SilentCall : Type 0 where
+  pub address : ℕ
+  pub params : List ValType
+  pub arguments : List Value
+
+abbrev pub deed_of : SilentCall → Deed
+deed_of call = Calls (record { address = call.address; signature = record { params = call.params; results = [] } }) call.arguments
+
+abbrev pub event_of : SilentCall → Event
+event_of call = Called call.address call.arguments
+
+abbrev pub deeds_of : List SilentCall → List Deed
+deeds_of calls = map deed_of calls
+
+abbrev pub events_of : List SilentCall → List Event
+events_of calls = map event_of calls
+
+-- what is called at the start: the function at the first address, where there is one, and the task hook at the second
+-- before and after it
+abbrev hook_silently : ℕ → TaskHook → SilentCall
+hook_silently hook moment = record { address = hook; params = I32 ∷ []; arguments = I32Value (hook_number moment) ∷ [] }
+
+abbrev pub silent_calls : Option ℕ → Option ℕ → List SilentCall
+silent_calls None hook = []
+silent_calls (Some first) None = record { address = first; params = []; arguments = [] } ∷ []
+silent_calls (Some first) (Some hook) = hook_silently hook InitializeStart ∷ record { address = first; params = []; arguments = [] } ∷ hook_silently hook InitializeFinish ∷ []
+
+pub start_is_silent : (first hooking : Option ℕ) → start_deeds first hooking ≡ deeds_of (silent_calls first hooking)
+start_is_silent None hooking = refl
+start_is_silent (Some first) None = refl
+start_is_silent (Some first) (Some hook) = refl
+
+-- the state that a machine had before doesn't matter
+resumed_moved : (o : core.Outcome) (m : Machine) (now : Now) (next : List Value → Machine → Outcome) → resumed o m next ≡ resumed o (record m { now = now }) next
+resumed_moved (core.Returned values after) m now next = refl
+resumed_moved (core.Trapped core.ByAnswer after) m now next = refl
+resumed_moved (core.Trapped core.ByCode after) m now next = refl
+resumed_moved (core.Open after) m now next = refl
+resumed_moved core.Stuck m now next = refl
+
+-- where such a call is not the last, the others follow
+next_call : (deeds : List Deed) (answers : List Answer) (now : Now) (m : Machine) (next : List Value → Machine → Outcome) →
+    resumed (and_then (answered [] answers now) (λ results after. deeds_done deeds after)) m next ≡ resumed (answered [] answers now) m (λ values after. resumed (deeds_done deeds after.now) after next)
+next_call deeds [] now m next = refl
+next_call deeds (Traps ∷ answers) now m next = refl
+next_call deeds (Gives [] number ∷ answers) now m next =
+    let later : Now = record now { globals = map (renewed number) now.globals; answers = answers } in resumed_moved (deeds_done deeds later) m later next
+next_call deeds (Gives (v ∷ values) number ∷ answers) now m next = refl
+
+-- Such calls are made in order, from a store in which all is ready: the run stops at one of them, or goes on behind them.
+module _ (w : ComponentWorld) (e : Scope) (u : Store) (n : List ValType) (questions : List (List ValType)) (c : Scope) (s : Store) (g : List ValType) (some : s.module_instances ≡ [] → ⊥) (ready : IsReady w s) (next : Machine → Outcome) (later : List Event) where
+  pub calls_go_on : (calls : List SilentCall) (es : List Event) →
+      ((now : Now) → IsNow w s.module_instances (es ++ events_of calls) g now → IsGood w e u n ((es ++ events_of calls) ++ later) questions now.answers (next (machine c s now))) →
+      (now : Now) → IsNow w s.module_instances es g now →
+      IsGood w e u n (es ++ (events_of calls ++ later)) (asks (events_of calls) ++ questions) now.answers (resumed (deeds_done (deeds_of calls) now) (machine c s now) (λ values m. next m))
+  calls_go_on [] es go now at =
+      subst (λ l. IsGood w e u n (l ++ later) questions now.answers (next (machine c s now))) (append-nil es)
+      (go now (subst (λ l. IsNow w s.module_instances l g now) (sym (append-nil es)) at))
+  calls_go_on (x ∷ xs) es go now at =
+      let event : Event = event_of x in
+      let rest : List Event = events_of xs in
+      let total : List Event = es ++ (event ∷ (rest ++ later)) in
+      let behind : List (List ValType) = asks rest ++ questions in
+      subst (IsGood w e u n total ([] ∷ behind) now.answers) (sym (next_call (deeds_of xs) now.answers (seen now event) (machine c s now) (λ values m. next m)))
+      (good_answered w e u n total behind now.answers (seen now event) (machine c s now) (λ values after. resumed (deeds_done (deeds_of xs) after.now) after (λ values m. next m))
+      (λ stopped same. stopped_at w event es (rest ++ later) g now stopped c s at same (inr ready))
+      (λ values after same_events same_moments same_globals kept.
+      let at_next : IsNow w s.module_instances (es ++ event ∷ []) g after = event_more w s.module_instances event es g now after some at same_events same_moments same_globals kept in
+      subst (λ l. IsGood w e u n l behind after.answers (resumed (deeds_done (deeds_of xs) after) (machine c s after) (λ values m. next m))) (append_assoc es (event ∷ []) (rest ++ later))
+      (calls_go_on xs (es ++ event ∷ [])
+      (λ then is_then.
+      subst (λ l. IsGood w e u n (l ++ later) questions then.answers (next (machine c s then))) (sym (append_assoc es (event ∷ []) rest))
+      (go then (subst (λ l. IsNow w s.module_instances l g then) (append_assoc es (event ∷ []) rest) is_then)))
+      after at_next)))

@@ -1,5 +1,5 @@
 -- The functions of a world, its user modules, and the core types of what these import and export.
-use Rattle.std.proofs.Common.{◌≡◌, ◌∙◌, ◌⊎◌, inl, inr, ℕ, zero, suc, Bool, true, false, ◌&&◌, List, [], ◌∷◌, map, refl, sym, ap, subst, Some, None, eq-eqb, arith, true≢false, if◌then◌else◌}
+use Rattle.std.proofs.Common.{◌≡◌, ◌∙◌, ◌⊎◌, inl, inr, ℕ, zero, suc, Bool, true, false, ◌&&◌, List, [], ◌∷◌, map, refl, sym, ap, subst, Some, eq-eqb, arith, true≢false}
 use Rattle.std.proofs.lemmas.Option.{none-some, same_Some}
 use Rattle.std.proofs.lemmas.Slice.Eq.{bytes_eq-Decides}
 use Rattle.std.proofs.Math.Dec.{eqb-zero-suc, eqb-suc-zero}
@@ -7,7 +7,6 @@ use Rattle.std.proofs.lemmas.Map.Views.{Contains-from_lookup}
 use Rattle.std.specs.Prelude.{Contains, nat_eq}
 use Rattle.std.specs.List.{slice_get, AllByRecursion}
 use Rattle.std.specs.Str.{bytes_eq}
-use Rattle.comp_lists.specs.Found.{found}
 use Rattle.comp_lists.proofs.Lists.{AllByRecursion-weaker, AllByRecursion-contains}
 use Rattle.wit_data.specs.Keys.{is_same_key}
 use Rattle.core_types.specs.declared.types.FuncType.{FuncType}
@@ -22,7 +21,6 @@ use Rattle.wit_data.specs.declared.worlds.WorldKey.{WorldKey}
 use Rattle.wit_data.specs.declared.worlds.WorldKey.TheVariants as keys
 use Rattle.comp_roles.specs.CoreImports.{fields_of, role_at}
 use Rattle.comp_roles.specs.CoreTypes.{called_type, core_type}
-use Rattle.comp_roles.specs.declared.exports.Export.{Export as WorldExport}
 use Rattle.comp_roles.specs.declared.exports.Export.TheVariants as exports
 use Rattle.comp_roles.specs.declared.imports.Import.{Import}
 use Rattle.comp_roles.specs.declared.imports.ImportInstance.{ImportInstance}
@@ -30,15 +28,13 @@ use Rattle.comp_roles.specs.declared.imports.ImportInstance.TheVariants as insta
 use Rattle.comp_roles.specs.declared.offered.ExternType.{ExternType}
 use Rattle.comp_roles.specs.declared.offered.ExternType.TheVariants as externs
 use Rattle.comp_roles.specs.declared.offered.ImportType.{ImportType}
-use Rattle.comp_roles.specs.Lookups.{first_export, is_initialize, is_task_hook}
 use Rattle.comp_worlds.proofs.Roles.{role_right}
-use Rattle.comp_worlds.specs.Typed.{FitsRole, FitsInstance, FitsImport, FitsExport, initialize_type}
+use Rattle.comp_worlds.specs.Typed.{FitsRole, FitsInstance, FitsImport}
 use Rattle.comp_worlds.specs.WorldContents.{items_of, exported_item}
-use Rattle.comp_worlds.specs.Worlds.{IsWorld, IsUserModule, IsExportItem, IsImportRole, IsImportGroup, IsExportRole}
+use Rattle.comp_worlds.specs.Worlds.{IsWorld, IsUserModule, IsExportItem, IsImportRole, IsImportGroup}
 use Rattle.comp_worlds.specs.declared.world.ComponentWorld.{ComponentWorld}
 use Rattle.comp_worlds.specs.declared.world.ValidatedModule.{ValidatedModule}
 use Rattle.comp_worlds.specs.declared.world.WorldAdapter.{WorldAdapter}
-use Rattle.world_shims.specs.WorldShims.{initialize_of}
 use Rattle.comp_links.specs.Targets.{Main, Adapter}
 use Rattle.comp_links.specs.Modules.{WorldModule, adapter_module, user_modules, IsModule}
 use Rattle.comp_links.specs.Lists.{resource_of}
@@ -168,30 +164,3 @@ one_import w m roles i (inr h) = inr h
 -- what user modules import is given
 pub given_imports : (w : ComponentWorld) (of : WorldModule) → IsRightModule w of → AllByRecursion (IsGivenImport w of.found) of.found.imported
 given_imports w of right = AllByRecursion-weaker (one_import w of.found right.is.import_roles) of.found.imported right.is.imported
-
--- ---- what main exports
-
--- main has no task hook
-not_hook : (w : ComponentWorld) (role : WorldExport) → IsExportRole w role → is_task_hook role ≡ false
-not_hook w exports.WasmTaskHook h = absurd h
-not_hook w role h = refl
-
-none_exported : (w : ComponentWorld) (matching : WorldExport → Bool) → ((role : WorldExport) → IsExportRole w role → matching role ≡ false) → (es : List (List ℕ × WorldExport)) → AllByRecursion (λ e. IsExportRole w e.1) es → first_export matching es ≡ None
-none_exported w matching none [] h = refl
-none_exported w matching none (e ∷ es) h = rw (none e.1 h.0) (none_exported w matching none es h.1)
-
-pub no_hook : (w : ComponentWorld) (es : List (List ℕ × WorldExport)) → AllByRecursion (λ e. IsExportRole w e.1) es → first_export is_task_hook es ≡ None
-no_hook w es h = none_exported w is_task_hook (not_hook w) es h
-
--- the function with which main is initialized is offered, without parameters and results
-first_initializes : (w : ComponentWorld) (name : List ℕ) (es : List (List ℕ × WorldExport)) → AllByRecursion (FitsExport w.resolve (items_of w) w.main) es → first_export is_initialize es ≡ Some name → found name w.main.offered ≡ Some initialize_type
-first_initializes w name [] fits first = absurd (none-some name first)
-first_initializes w name ((own, role) ∷ es) fits first = by role fits.0 (λ k. first_initializes w name es fits.1 k) first
-  where
-    by : (role : WorldExport) → FitsExport w.resolve (items_of w) w.main (own, role) → (first_export is_initialize es ≡ Some name → found name w.main.offered ≡ Some initialize_type) →
-        (if is_initialize role then Some own else first_export is_initialize es) ≡ Some name → found name w.main.offered ≡ Some initialize_type
-    by exports.Initialize h later k = subst (λ n. found n w.main.offered ≡ Some initialize_type) (same_Some own name k) (h.offered ∙ sym h.fits)
-    by role h later k = later k
-
-pub initialize_offered : (w : ComponentWorld) → IsWorld w → (name : List ℕ) → initialize_of w ≡ Some name → found name w.main.offered ≡ Some initialize_type
-initialize_offered w ok name first = first_initializes w name w.main.exports.exports ok.main.exported first

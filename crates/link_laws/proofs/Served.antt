@@ -63,7 +63,7 @@ use Rattle.comp_runs.specs.Store.{Thing, Export, HeldOption, HeldEncoding, HeldM
 use Rattle.comp_runs.specs.Machine.{Machine, export_named, export_in, export_of}
 use Rattle.nested_laws.proofs.Kept.{is_function}
 use Rattle.nested_laws.proofs.Exports.{front, other_space}
-use Rattle.link_laws.specs.Meeting.{IsBase, IsOfBase, CoreMeets, CoreExportMeets, task_hook, hooks_round, IsExportedItem, ItemMeets, MemoryMeets, IsMainMemory, MeetsOption, ItemIsExport, ItemIsLowering, ItemIsOfResource, ItemIsBuiltIn, Meets, MeetsIn, entry_kind}
+use Rattle.link_laws.specs.Meeting.{IsBase, IsOfBase, CoreMeets, CoreExportMeets, task_hook, hooks_round, IsExportedItem, ItemMeets, MemoryMeets, IsMainMemory, MeetsOption, MeetOptions, ItemIsExport, ItemIsLowering, ItemIsOfResource, ItemIsBuiltIn, Meets, MeetsIn, entry_kind}
 use Rattle.instance_laws.proofs.Held.{tree_of_held}
 use Rattle.link_laws.specs.Linking.{is_digit, IsShim, IsDirect, IsUntouched, AreTablesUntouched, ShimsFilled, IsServed, AreServed, UsersServed, IsProvided, IsTypeProvided, DestructorMeets, IsDefined, IsNumberDefined, exports_at}
 use Rattle.link_laws.proofs.Zips.{AllByRecursion-join, each_at}
@@ -73,7 +73,8 @@ use Rattle.link_laws.proofs.Stores.{IsInstance, IsCellGetter, IsCellSetter, IsOp
 use Rattle.link_laws.proofs.Given.{by_parts, named_in_space}
 use Rattle.comp_links.proofs.Keys.{one_provider}
 use Rattle.link_laws.proofs.GivenImports.{of_purpose, purpose_opaque, one_purpose}
-use Rattle.link_laws.proofs.Plain.{nothing_in, no_hook, function_key}
+use Rattle.link_laws.proofs.Plain.{nothing_in, function_key}
+use Rattle.link_laws.proofs.Unhooked.{IsBare, BareKind, BareOption, BareTarget, all_bare, bare_entry, bare_link_at, bare_destructor}
 use Rattle.comp_worlds.specs.WorldContents.{exported_item}
 
 -- ---- opaque functions
@@ -99,12 +100,14 @@ unfolding acts exec
 acts_alone store address what signature hook e arguments now = rw e (sym (returned_same (asked address signature arguments now)))
 
 module _ (w : ComponentWorld) (ok : IsWorld w) (m : Machine) where
-  main_has_no_hook : task_hook w ≡ None
-  main_has_no_hook = no_hook w w.main.exports.exports ok.main.export_roles
+  no_hooks : (kind : Option Bracketed) → BareKind w kind → hooks_round w kind ≡ around None Nothing
+  no_hooks None bare = refl
+  no_hooks (Some kind) bare = ap (λ o. if is_some o then bracket_of kind else around None Nothing) bare
 
-  no_hooks : (kind : Option Bracketed) → hooks_round w kind ≡ around None Nothing
-  no_hooks None = refl
-  no_hooks (Some kind) = ap (λ o. if is_some o then bracket_of kind else around None Nothing) main_has_no_hook
+  -- so no hook has to be there
+  not_hooked : {P : Type 0} (kind : Option Bracketed) → BareKind w kind → (bracketed : Bracketed) (name : List ℕ) → kind ≡ Some bracketed → task_hook w ≡ Some name → P
+  not_hooked None bare bracketed name is hook = absurd (none-some bracketed is)
+  not_hooked (Some kind) bare bracketed name is hook = absurd (none-some name (sym bare ∙ hook))
 
   -- a call of the function at this address is one call of the opaque function at the other
   abbrev pub Forwards : ℕ → ℕ → FuncType → Type 0
@@ -112,8 +115,8 @@ module _ (w : ComponentWorld) (ok : IsWorld w) (m : Machine) where
       (arguments : List Value) (now : Now) → IsTrue (fit type.params arguments) → acts m.store.code address arguments now ≡ expected (around None Nothing) 0 (record { address = function; signature = type }) arguments now
 
   -- then it meets what that is
-  forwarding_meets : (kind : Option Bracketed) (address function : ℕ) (type : FuncType) (item : CoreItem) (P : CoreItem → Type 0) → Forwards address function type → IsOpaqueOf m.store function type item → P item → CoreMeets w m kind address P
-  forwarding_meets kind address function type item P same h p = record {
+  forwarding_meets : (kind : Option Bracketed) → BareKind w kind → (address function : ℕ) (type : FuncType) (item : CoreItem) (P : CoreItem → Type 0) → Forwards address function type → IsOpaqueOf m.store function type item → P item → CoreMeets w m kind address P
+  forwarding_meets kind bare address function type item P same h p = record {
     target = record { address = function; signature = type };
     what = h.what;
     item = item;
@@ -121,11 +124,11 @@ module _ (w : ComponentWorld) (ok : IsWorld w) (m : Machine) where
     is = h.present;
     known = h.known;
     named = p;
-    hooked = λ name e. absurd (none-some name (sym main_has_no_hook ∙ e));
+    hooked = λ bracketed name is hook. not_hooked kind bare bracketed name is hook;
     acts = record {
       same = λ arguments now fits kept.
           same arguments now fits
-          ∙ ap (λ b. expected b 0 (record { address = function; signature = type }) arguments now) (sym (no_hooks kind));
+          ∙ ap (λ b. expected b 0 (record { address = function; signature = type }) arguments now) (sym (no_hooks kind bare));
     };
   }
 
@@ -133,8 +136,8 @@ module _ (w : ComponentWorld) (ok : IsWorld w) (m : Machine) where
   forwards_itself : (address : ℕ) (type : FuncType) (item : CoreItem) → IsOpaqueOf m.store address type item → Forwards address address type
   forwards_itself address type item h arguments now fits = acts_alone m.store.code address h.what type 0 h.present arguments now
 
-  opaque_meets : (kind : Option Bracketed) (address : ℕ) (type : FuncType) (item : CoreItem) (P : CoreItem → Type 0) → IsOpaqueOf m.store address type item → P item → CoreMeets w m kind address P
-  opaque_meets kind address type item P h p = forwarding_meets kind address address type item P (forwards_itself address type item h) h p
+  opaque_meets : (kind : Option Bracketed) → BareKind w kind → (address : ℕ) (type : FuncType) (item : CoreItem) (P : CoreItem → Type 0) → IsOpaqueOf m.store address type item → P item → CoreMeets w m kind address P
+  opaque_meets kind bare address type item P h p = forwarding_meets kind bare address address type item P (forwards_itself address type item h) h p
 
 -- ---- exports of modules
 
@@ -148,8 +151,8 @@ module _ (w : ComponentWorld) (ok : IsWorld w) (m : Machine) where
     same_name = refl;
   }
 
-  function_meets : (kind : Bracketed) (address : ℕ) (export_ref : ExportRef) → IsFunctionExported w m.store address export_ref → CoreExportMeets w m (Some kind) address export_ref
-  function_meets kind address export_ref h = opaque_meets w ok m (Some kind) address h.type (ExportedBy h.user export_ref.name) (ItemIsExport w m export_ref) h.is (function_item h)
+  function_meets : (kind : Bracketed) → IsBare w → (address : ℕ) (export_ref : ExportRef) → IsFunctionExported w m.store address export_ref → CoreExportMeets w m (Some kind) address export_ref
+  function_meets kind bare address export_ref h = opaque_meets w ok m (Some kind) bare address h.type (ExportedBy h.user export_ref.name) (ItemIsExport w m export_ref) h.is (function_item h)
 
   memory_meets : (address : ℕ) → IsMemoryOfMain w m.store address → IsMainMemory w m address
   memory_meets address h = by (shared_memory w) refl (first_memory w.main.exports.exports) refl h.named
@@ -279,38 +282,44 @@ module _ (w : ComponentWorld) (ok : IsWorld w) (m : Machine) where
       let same : shim (at.address + h.place) ≡ shim address = same_Some (shim (at.address + h.place)) (shim address) (sym found ∙ (ap (export_named (decimal h.place)) (sym exports) ∙ h.exported)) in
       record { place = h.place; stands = h.stands; is = sym (ap (λ (e : Export). e.address) same) }
 
-  export_meets : (kind : Option Bracketed) (address at : ℕ) (export_ref : ExportRef) (h : IsFunctionExported w m.store at export_ref) → Forwards w ok m address at h.type → CoreExportMeets w m kind address export_ref
-  export_meets kind address at export_ref h same =
-      forwarding_meets w ok m kind address at h.type (ExportedBy h.user export_ref.name) (ItemIsExport w m export_ref) same h.is (function_item w ok m h)
+  export_meets : (kind : Option Bracketed) → BareKind w kind → (address at : ℕ) (export_ref : ExportRef) (h : IsFunctionExported w m.store at export_ref) → Forwards w ok m address at h.type → CoreExportMeets w m kind address export_ref
+  export_meets kind bare address at export_ref h same =
+      forwarding_meets w ok m kind bare address at h.type (ExportedBy h.user export_ref.name) (ItemIsExport w m export_ref) same h.is (function_item w ok m h)
 
   given_forwards : (shims : Option ShimsAt) → FilledAtEnd shims → (address : ℕ) (target : Target) → IsShimGiven w shims address target → ForwardsFor address target
   given_forwards None filled address target h = absurd h
   given_forwards (Some at) filled address target h = shim_forwards address at target filled h
 
   -- a shim for an export meets it
-  shim_meets_export : (shims : Option ShimsAt) → FilledAtEnd shims → (kind : Bracketed) (address : ℕ) (export_ref : ExportRef) → IsShimExported w m.store address (ExportOf export_ref) → CoreExportMeets w m (Some kind) address export_ref
-  shim_meets_export None filled kind address export_ref h =
+  shim_meets_export : (shims : Option ShimsAt) → FilledAtEnd shims → (kind : Bracketed) → IsBare w → (address : ℕ) (export_ref : ExportRef) → IsShimExported w m.store address (ExportOf export_ref) → CoreExportMeets w m (Some kind) address export_ref
+  shim_meets_export None filled kind bare address export_ref h =
       let none : h.instance.exports ≡ [] = entry_at (ExportsShims w None) m.store.module_instances h.user h.instance filled h.present h.of in
       absurd (none-some (record { space = spaces.CoreFunc; name = decimal h.place; address = address }) (ap (export_named (decimal h.place)) (sym none) ∙ h.exported))
-  shim_meets_export (Some at) filled kind address export_ref h =
+  shim_meets_export (Some at) filled kind bare address export_ref h =
       let x : ForwardsFor address (ExportOf export_ref) = shim_forwards address at (ExportOf export_ref) filled (shim_held_at at filled address (ExportOf export_ref) h) in
-      export_meets (Some kind) address x.function export_ref x.serves (x.same x.serves.type (ExportedBy x.serves.user export_ref.name) x.serves.is)
+      export_meets (Some kind) bare address x.function export_ref x.serves (x.same x.serves.type (ExportedBy x.serves.user export_ref.name) x.serves.is)
 
 -- ---- options
 
 module _ (w : ComponentWorld) (ok : IsWorld w) (m : Machine) (shims : Option ShimsAt) (filled : FilledAtEnd w ok m shims) where
-  realloc_meets : (address : ℕ) (export_ref : ExportRef) → IsReallocHeld w m.store address export_ref → CoreExportMeets w m (Some brackets.Realloc) address export_ref
-  realloc_meets address export_ref (inl h) = function_meets w ok m brackets.Realloc address export_ref h
-  realloc_meets address export_ref (inr h) = shim_meets_export w ok m shims filled brackets.Realloc address export_ref h
+  realloc_meets : IsBare w → (address : ℕ) (export_ref : ExportRef) → IsReallocHeld w m.store address export_ref → CoreExportMeets w m (Some brackets.Realloc) address export_ref
+  realloc_meets bare address export_ref (inl h) = function_meets w ok m brackets.Realloc bare address export_ref h
+  realloc_meets bare address export_ref (inr h) = shim_meets_export w ok m shims filled brackets.Realloc bare address export_ref h
 
-  option_meets : (held : HeldOption) (o : TargetOption) → IsOptionHeld w m.store held o → MeetsOption w m held o
-  option_meets (HeldEncoding e) (targets.Encoding e') h = h
-  option_meets (HeldMemory a) targets.Memory h = memory_meets w ok m a h
-  option_meets (HeldRealloc a) (targets.Realloc export_ref) h = realloc_meets a export_ref h
-  option_meets (HeldPostReturn a) (targets.PostReturn export_ref) h = function_meets w ok m brackets.PostReturn a export_ref h
-  option_meets (HeldCallback a) (targets.Callback export_ref) h = function_meets w ok m brackets.Callback a export_ref h
-  option_meets HeldAsync targets.Async h = tt
-  option_meets held o h = absurd h
+  option_meets : (held : HeldOption) (o : TargetOption) → BareOption w o → IsOptionHeld w m.store held o → MeetsOption w m held o
+  option_meets (HeldEncoding e) (targets.Encoding e') bare h = h
+  option_meets (HeldMemory a) targets.Memory bare h = memory_meets w ok m a h
+  option_meets (HeldRealloc a) (targets.Realloc export_ref) bare h = realloc_meets bare a export_ref h
+  option_meets (HeldPostReturn a) (targets.PostReturn export_ref) bare h = function_meets w ok m brackets.PostReturn bare a export_ref h
+  option_meets (HeldCallback a) (targets.Callback export_ref) bare h = function_meets w ok m brackets.Callback bare a export_ref h
+  option_meets HeldAsync targets.Async bare h = tt
+  option_meets held o bare h = absurd h
+
+  options_meet : (held : List HeldOption) (options : List TargetOption) → AllByRecursion (BareOption w) options → AllZip (IsOptionHeld w m.store) held options → MeetOptions w m held options
+  options_meet [] [] bare h = tt
+  options_meet [] (o ∷ options) bare h = absurd h
+  options_meet (held ∷ more) [] bare h = absurd h
+  options_meet (held ∷ more) (o ∷ options) bare h = (option_meets held o bare.0 h.0, options_meet more options bare.1 h.1)
 
 -- ---- imports
 
@@ -325,9 +334,9 @@ no_cell_given w None address target h = absurd h
 no_cell_given w (Some at) address target h = subst IsNoCell h.stands.same (of_purpose IsNoCell (λ function options. tt) (λ name with_options operand options. tt) (λ e. tt) w h.stands.shim h.stands.purpose h.stands.stands_for)
 
 module _ (w : ComponentWorld) (ok : IsWorld w) (m : Machine) (shims : Option ShimsAt) (filled : FilledAtEnd w ok m shims) where
-  import_meets : (address at : ℕ) (function : WorldFunction) (options : List TargetOption) (h : IsLoweredFor w m.store at function options) → Forwards w ok m address at (core_signature h.type h.held) → CoreMeets w m None address (ItemIsLowering w m (resource_of w) function options)
-  import_meets address at function options h same =
-      forwarding_meets w ok m None address at (core_signature h.type h.held) (Lowering h.lowered.of h.held) (ItemIsLowering w m (resource_of w) function options) same h.lowered.is (
+  import_meets : (address at : ℕ) (function : WorldFunction) (options : List TargetOption) (h : IsLoweredFor w m.store at function options) → AllByRecursion (BareOption w) options → Forwards w ok m address at (core_signature h.type h.held) → CoreMeets w m None address (ItemIsLowering w m (resource_of w) function options)
+  import_meets address at function options h bare same =
+      forwarding_meets w ok m None tt address at (core_signature h.type h.held) (Lowering h.lowered.of h.held) (ItemIsLowering w m (resource_of w) function options) same h.lowered.is (
         record {
           origin = h.origin;
           wit = h.typed.wit;
@@ -335,7 +344,7 @@ module _ (w : ComponentWorld) (ok : IsWorld w) (m : Machine) (shims : Option Shi
           from = h.from;
           type_of = h.typed.imported;
         },
-        AllZip-weaker (option_meets w ok m shims filled) h.held options h.with_options,
+        options_meet w ok m shims filled h.held options bare h.with_options,
       )
 
   named_function : (function : ResourceFunction) (resource : Resource) → ItemIsOfResource function resource (IntrinsicOf (intrinsic_of function 0) (Some (ResourceAt resource)) [])
@@ -346,52 +355,52 @@ module _ (w : ComponentWorld) (ok : IsWorld w) (m : Machine) (shims : Option Shi
   resource_meets : (address at : ℕ) (function : ResourceFunction) (id : TypeId) → IsFunctionOf m.store at function (resource_of w id) → Forwards w ok m address at (resource_core function) →
       CoreMeets w m None address (ItemIsOfResource function (resource_of w id))
   resource_meets address at function id h same =
-      forwarding_meets w ok m None address at (resource_core function) (IntrinsicOf (intrinsic_of function 0) (Some (ResourceAt (resource_of w id))) []) (ItemIsOfResource function (resource_of w id)) same h.is
+      forwarding_meets w ok m None tt address at (resource_core function) (IntrinsicOf (intrinsic_of function 0) (Some (ResourceAt (resource_of w id))) []) (ItemIsOfResource function (resource_of w id)) same h.is
       (named_function function (resource_of w id))
 
   -- what an operand is in the world
   abbrev tree_of : Operand → Option Tree
   tree_of operand = operand_tree (resource_of w) w.resolve.types operand
 
-  built_in_meets : (address at : ℕ) (name : Intrinsic) (operand : Operand) (options : List TargetOption) (h : IsBuiltInAt w m.store at name (tree_of operand) options) → Forwards w ok m address at (intrinsic_signature name (tree_of operand)) →
+  built_in_meets : (address at : ℕ) (name : Intrinsic) (operand : Operand) (options : List TargetOption) (h : IsBuiltInAt w m.store at name (tree_of operand) options) → AllByRecursion (BareOption w) options → Forwards w ok m address at (intrinsic_signature name (tree_of operand)) →
       CoreMeets w m None address (ItemIsBuiltIn w m (resource_of w) name operand options)
-  built_in_meets address at name operand options h same =
-      forwarding_meets w ok m None address at (intrinsic_signature name (tree_of operand)) (IntrinsicOf name (tree_of operand) h.held) (ItemIsBuiltIn w m (resource_of w) name operand options) same h.is
-      (refl, refl, AllZip-weaker (option_meets w ok m shims filled) h.held options h.with_options)
+  built_in_meets address at name operand options h bare same =
+      forwarding_meets w ok m None tt address at (intrinsic_signature name (tree_of operand)) (IntrinsicOf name (tree_of operand) h.held) (ItemIsBuiltIn w m (resource_of w) name operand options) same h.is
+      (refl, refl, options_meet w ok m shims filled h.held options bare h.with_options)
 
   -- a function meets what another one is, where it forwards to that
-  function_meets_as : (t : Thing) (at : ℕ) (target : Target) → IsNoCell target → t.space ≡ spaces.CoreFunc → ((type : FuncType) (item : CoreItem) → IsOpaqueOf m.store at type item → Forwards w ok m t.address at type) → IsServedAs w m.store at target → Meets w m (resource_of w) t target
-  function_meets_as t at (Lowered function options) other space same h =
+  function_meets_as : (t : Thing) (at : ℕ) (target : Target) → IsNoCell target → BareTarget w target → t.space ≡ spaces.CoreFunc → ((type : FuncType) (item : CoreItem) → IsOpaqueOf m.store at type item → Forwards w ok m t.address at type) → IsServedAs w m.store at target → Meets w m (resource_of w) t target
+  function_meets_as t at (Lowered function options) other bare space same h =
       subst (λ space. MeetsIn w m (resource_of w) space t.address (Lowered function options)) (sym space)
-      (import_meets t.address at function options h (same (core_signature h.type h.held) (Lowering h.lowered.of h.held) h.lowered.is))
-  function_meets_as t at (OfResource function id) other space same h =
+      (import_meets t.address at function options h bare (same (core_signature h.type h.held) (Lowering h.lowered.of h.held) h.lowered.is))
+  function_meets_as t at (OfResource function id) other bare space same h =
       subst (λ space. MeetsIn w m (resource_of w) space t.address (OfResource function id)) (sym space)
       (resource_meets t.address at function id h (same (resource_core function) (IntrinsicOf (intrinsic_of function 0) (Some (ResourceAt (resource_of w id))) []) h.is))
-  function_meets_as t at (BuiltIn name operand options) other space same h =
+  function_meets_as t at (BuiltIn name operand options) other bare space same h =
       subst (λ space. MeetsIn w m (resource_of w) space t.address (BuiltIn name operand options)) (sym space)
-      (built_in_meets t.address at name operand options h (same (intrinsic_signature name (tree_of operand)) (IntrinsicOf name (tree_of operand) h.held) h.is))
-  function_meets_as t at (ExportOf export_ref) other space same h =
+      (built_in_meets t.address at name operand options h bare (same (intrinsic_signature name (tree_of operand)) (IntrinsicOf name (tree_of operand) h.held) h.is))
+  function_meets_as t at (ExportOf export_ref) other bare space same h =
       subst (λ space. MeetsIn w m (resource_of w) space t.address (ExportOf export_ref)) (sym space)
-      (export_meets w ok m None t.address at export_ref h (same h.type (ExportedBy h.user export_ref.name) h.is))
-  function_meets_as t at TlsGet other space same h = absurd other
-  function_meets_as t at TlsSet other space same h = absurd other
-  function_meets_as t at target other space same h = absurd h
+      (export_meets w ok m None tt t.address at export_ref h (same h.type (ExportedBy h.user export_ref.name) h.is))
+  function_meets_as t at TlsGet other bare space same h = absurd other
+  function_meets_as t at TlsSet other bare space same h = absurd other
+  function_meets_as t at target other bare space same h = absurd h
 
   -- ---- the resources that the component defines
 
-  destructor_meets : (destructor : Option ℕ) (e : Option ExportRef) → IsDestroyedBy w shims destructor e → DestructorMeets w m destructor e
-  destructor_meets None None h = tt
-  destructor_meets (Some address) (Some e) h =
+  destructor_meets : (destructor : Option ℕ) (e : Option ExportRef) → ((x : ExportRef) → e ≡ Some x → IsBare w) → IsDestroyedBy w shims destructor e → DestructorMeets w m destructor e
+  destructor_meets None None bare h = tt
+  destructor_meets (Some address) (Some e) bare h =
       let x : ForwardsFor w ok m address (ExportOf e) = given_forwards w ok m shims filled address (ExportOf e) h in
-      export_meets w ok m (Some brackets.Destructor) address x.function e x.serves (x.same x.serves.type (ExportedBy x.serves.user e.name) x.serves.is)
-  destructor_meets None (Some e) h = absurd h
-  destructor_meets (Some address) None h = absurd h
+      export_meets w ok m (Some brackets.Destructor) (bare e refl) address x.function e x.serves (x.same x.serves.type (ExportedBy x.serves.user e.name) x.serves.is)
+  destructor_meets None (Some e) bare h = absurd h
+  destructor_meets (Some address) None bare h = absurd h
 
   -- each is one of the world's, with its destructor
   pub resource_defined : (address number : ℕ) (destructor : Option ℕ) → slice_get m.store.types address ≡ Some (OwnResource number destructor) → {count : ℕ} → AreResources w shims m.store.types count → IsDefined w m number destructor
   resource_defined address number destructor present all =
       let own : IsOwnResource w shims number destructor = among m.store.types address all.each present in
-      record { provided = own.provided; is = own.is; destroyed = destructor_meets destructor (destructor_of w own.provided) own.destroyed }
+      record { provided = own.provided; is = own.is; destroyed = destructor_meets destructor (destructor_of w own.provided) (bare_destructor w ok own.provided) own.destroyed }
     where
       among : (types : List TypeItem) (n : ℕ) → AllByRecursion (IsOwnIfDefined w shims) types → slice_get types n ≡ Some (OwnResource number destructor) → IsOwnResource w shims number destructor
       among [] n h e = absurd (none-some (OwnResource number destructor) e)
@@ -471,26 +480,26 @@ module _ (w : ComponentWorld) (ok : IsWorld w) (m : Machine) (shims : Option Shi
           does = λ store same. setters_write store h.type 0 address (record { frame = h.is.frame; local = h.is.local; has = same ∙ h.is.has; names = h.is.names });
         }
 
-    item_meets : (space : Space) (address : ℕ) (target : Target) → IsServedIn w m.store space address target → MeetsIn w m (resource_of w) space address target
-    item_meets spaces.CoreFunc address TlsGet h = getter_meets address h
-    item_meets spaces.CoreFunc address TlsSet h = setter_meets address h
-    item_meets spaces.CoreFunc address target h = function_meets_as (record { space = spaces.CoreFunc; address = address }) address target tt refl (λ type item o. forwards_itself w ok m address type item o) h
-    item_meets spaces.CoreTable address target h = table_met address target h
-    item_meets spaces.CoreMemory address target h = memory_met address target h
-    item_meets spaces.CoreGlobal address target h = global_met address target h
-    item_meets space address target h = absurd h
+    item_meets : (space : Space) (address : ℕ) (target : Target) → BareTarget w target → IsServedIn w m.store space address target → MeetsIn w m (resource_of w) space address target
+    item_meets spaces.CoreFunc address TlsGet bare h = getter_meets address h
+    item_meets spaces.CoreFunc address TlsSet bare h = setter_meets address h
+    item_meets spaces.CoreFunc address target bare h = function_meets_as (record { space = spaces.CoreFunc; address = address }) address target tt bare refl (λ type item o. forwards_itself w ok m address type item o) h
+    item_meets spaces.CoreTable address target bare h = table_met address target h
+    item_meets spaces.CoreMemory address target bare h = memory_met address target h
+    item_meets spaces.CoreGlobal address target bare h = global_met address target h
+    item_meets space address target bare h = absurd h
 
-    serves_meets : (t : Thing) (target : Target) → Serves w shims m.store t.space t.address target → Meets w m (resource_of w) t target
-    serves_meets t target (inl h) = item_meets t.space t.address target h
-    serves_meets t target (inr h) =
+    serves_meets : (t : Thing) (target : Target) → BareTarget w target → Serves w shims m.store t.space t.address target → Meets w m (resource_of w) t target
+    serves_meets t target bare (inl h) = item_meets t.space t.address target bare h
+    serves_meets t target bare (inr h) =
         let x : ForwardsFor w ok m t.address target = given_forwards w ok m shims filled t.address target h.1 in
-        function_meets_as t x.function target (no_cell_given w shims t.address target h.1) h.0 x.same x.serves
+        function_meets_as t x.function target (no_cell_given w shims t.address target h.1) bare h.0 x.same x.serves
 
     planned_served : (of : WorldModule) (t : Thing) (i : ImportType) → IsPlanned w shims m.store of t i → IsServed w m (resource_of w) of t i
     planned_served of t i h = record {
       target = h.target;
       said = h.said;
-      meets = serves_meets t h.target h.serves;
+      meets = serves_meets t h.target (bare_link_at w ok of i.module_name i.field h.target h.said) h.serves;
       direct = λ none function. served_direct t.address h.target (subst (λ space. IsServedIn w m.store space t.address h.target) function (h.direct none));
     }
 
@@ -603,6 +612,7 @@ module _ (n : Naming) (w : ComponentWorld) (ok : IsWorld w) (apart : AreExportsA
       option_and_then (export_of spaces.Func r.function) (exports_at w m (name_of n w.resolve r.key).name (exported_item w r.key)) ≡ Some (record { space = spaces.Func; name = r.function; address = address }) → IsProvided n w m (resource_of w) r
   lift_met r address h found =
       let lifted_with : List TargetOption = lift_options w r in
+      let bare : IsBare w = bare_entry w ok r h.name h.role in
       let entry : ExportRef = record { of = r.of; name = h.name } in
       record {
         address = address;
@@ -615,8 +625,8 @@ module _ (n : Naming) (w : ComponentWorld) (ok : IsWorld w) (apart : AreExportsA
           core = h.is.core;
           held = h.is.held;
           is = h.is.is;
-          enters = function_meets w ok m (entry_kind lifted_with) h.is.core entry h.is.of;
-          same = AllZip-weaker (option_meets w ok m shims filled) h.is.held lifted_with h.is.with_options;
+          enters = function_meets w ok m (entry_kind lifted_with) bare h.is.core entry h.is.of;
+          same = options_meet w ok m shims filled h.is.held lifted_with (all_bare w bare lifted_with) h.is.with_options;
         };
       }
 

@@ -12,16 +12,18 @@ use Rattle.core_types.specs.declared.types.ValType.{ValType}
 use Rattle.core_types.specs.declared.types.ValType.TheVariants.{I32, I64, F32, F64, Ref}
 use Rattle.core_bytes.specs.declared.code.Body.{Body}
 use Rattle.core_bytes.specs.declared.code.Instruction.{Instruction}
-use Rattle.core_bytes.specs.declared.code.Instruction.TheVariants.{CallIndirect, I32Const, LocalGet}
+use Rattle.core_bytes.specs.declared.code.Instruction.TheVariants.{Call, CallIndirect, I32Const, LocalGet}
 use Rattle.core_bytes.specs.declared.entity.ConstExpr.TheVariants as constants
 use Rattle.core_bytes.specs.declared.entity.EntityType.{EntityType}
 use Rattle.core_bytes.specs.declared.entity.EntityType.TheVariants as entities
 use Rattle.core_bytes.specs.declared.entry.Import.{Import}
 use Rattle.core_bytes.specs.declared.section.Section.{Section}
 use Rattle.core_bytes.specs.declared.section.Section.TheVariants as sections
-use Rattle.core_runs.specs.declared.start.StartStep.TheVariants.{Thunk}
 use Rattle.core_runs.specs.declared.tables.Shim.{Shim as Slot}
-use Rattle.core_runs.specs.Bodies.{table_of_shims, table_shims, start_step}
+use Rattle.core_runs.specs.declared.bracket.AfterHook.{AfterHook}
+use Rattle.core_runs.specs.declared.bracket.AfterHook.TheVariants.{Nothing, Always, ByStatus}
+use Rattle.core_runs.specs.declared.bracket.TaskHook.{TaskHook}
+use Rattle.core_runs.specs.Bodies.{table_of_shims, table_shims, gets, hook_calls, after_code, start_step}
 use Rattle.std.specs.Int.{cast_signed, w32}
 use Rattle.shim_modules.specs.Shims as shims
 use Rattle.shim_modules.specs.declared.shims.ShimFunction.{ShimFunction}
@@ -29,11 +31,14 @@ use Rattle.shim_modules.specs.declared.shims.ThreadCell.{ThreadCell}
 use Rattle.shim_plan.specs.declared.shims.Shim.{Shim}
 use Rattle.fixup_modules.specs.declared.instances.ImportedInstance.{ImportedInstance}
 use Rattle.fixup_modules.specs.declared.instances.ImportedInstance.TheVariants as instances
-use Rattle.fixup_modules.specs.Fixups.{Fixup, with_shim, shim_target, thunk_item, nothing_fixed}
+use Rattle.fixup_modules.specs.declared.actions.StartAction.{StartAction}
+use Rattle.fixup_modules.specs.declared.actions.StartAction.TheVariants as actions
+use Rattle.fixup_modules.specs.declared.wrappers.Wrapper.{Wrapper}
+use Rattle.fixup_modules.specs.Fixups.{Fixup, with_shim, shim_target, thunk_item, hook_item, step_of, nothing_fixed}
 use Rattle.fixup_modules.specs.Instances.{instance_name}
 use Rattle.fixup_modules.specs.Imports.{Imported, with_import, has_import, entry_of}
 use Rattle.fixup_modules.specs.Sections as fixups
-use Rattle.world_shims.specs.WorldShims.{type_of_shim, fixup_with, with_call, fixup_of}
+use Rattle.world_shims.specs.WorldShims.{type_of_shim, fixup_with, with_call, with_hook, fixup_of}
 use Rattle.link_laws.specs.Composition.{IsTable, IsConstant, IsGlobal, IsImported, AreEntriesTyped, referred, section_refers, section_declares}
 
 -- ---- types
@@ -93,8 +98,13 @@ call_imported : (f : Fixup) (initialize : Option (List ℕ)) → AreImported f.i
 call_imported f None h = h
 call_imported f (Some name) h = import_typed f.imported instances.Main name (thunk_item f.types) tt h
 
-pub fixup_imported : (ss : List Shim) (initialize : Option (List ℕ)) → AreImported (fixup_of ss initialize).imported.entries
-fixup_imported ss initialize = call_imported (fixup_with nothing_fixed ss) initialize (shims_imported nothing_fixed ss tt)
+hook_imported : (f : Fixup) (hook : Option (List ℕ)) → AreImported f.imported.entries → AreImported (with_hook f hook).imported.entries
+hook_imported f None h = h
+hook_imported f (Some name) h = import_typed f.imported instances.Main name (hook_item f.types) tt h
+
+pub fixup_imported : (ss : List Shim) (initialize hook : Option (List ℕ)) → AreImported (fixup_of ss initialize hook).imported.entries
+fixup_imported ss initialize hook =
+    hook_imported (with_call (fixup_with nothing_fixed ss) initialize) hook (call_imported (fixup_with nothing_fixed ss) initialize (shims_imported nothing_fixed ss tt))
 
 all_imported : (f : Fixup) → AreImported f.imported.entries → AreImported (fixups.all_imported f).entries
 all_imported f h = by f.fills
@@ -108,20 +118,25 @@ optional_typed : {A : Type 0} (section : A → Section) → ((x : A) → AreEntr
 optional_typed section each None rest h = h
 optional_typed section each (Some x) rest h = (each x, h)
 
-fixup_names_typed : (debug_names : Bool) (entries : List Import) (own : Option ℕ) → AreTyped (fixups.names_of debug_names entries own)
-fixup_names_typed false entries own = tt
-fixup_names_typed true entries own = (tt, tt)
+section_typed : {A : Type 0} (section : List A → Section) → ((xs : List A) → AreEntriesTyped (section xs)) → (xs : List A) (rest : List Section) → AreTyped rest → AreTyped (fixups.section_if section xs ++ rest)
+section_typed section each [] rest h = h
+section_typed section each (x ∷ xs) rest h = (each (x ∷ xs), h)
+
+fixup_names_typed : (debug_names : Bool) (entries : List Import) (wrappers : List Wrapper) (own : Option ℕ) → AreTyped (fixups.names_of debug_names entries wrappers own)
+fixup_names_typed false entries wrappers own = tt
+fixup_names_typed true entries wrappers own = (tt, tt)
 
 pub fixup_typed : (f : Fixup) (debug_names : Bool) → AreImported f.imported.entries → AreTyped (fixups.fixup_sections f debug_names)
 fixup_typed f debug_names h = (
   tt,
   (
     all_imported f h,
-    optional_typed (λ (type : ℕ). sections.Functions (type ∷ [])) (λ type. tt) (fixups.own_type f) _
+    section_typed sections.Functions (λ xs. tt) (fixups.function_types f) _
+        (section_typed sections.Exports (λ xs. tt) (fixups.exports_of f) _
         (optional_typed (λ (function : ℕ). sections.Start function) (λ function. tt) (fixups.start_function f) _
         (optional_typed (λ (table : ℕ). sections.Elements (fixups.fill_segment table f.fills ∷ [])) (λ table. tt) (fixups.table_of f) _
-        (optional_typed (λ (type : ℕ). sections.Code (fixups.calling f.calls ∷ [])) (λ type. tt) (fixups.own_type f) _
-        (fixup_names_typed debug_names (fixups.all_imported f).entries (fixups.own_function f))))),
+        (section_typed sections.Code (λ xs. tt) (fixups.bodies_of f) _
+        (fixup_names_typed debug_names (fixups.all_imported f).entries f.wrappers (fixups.own_function f)))))),
   ),
 )
 
@@ -166,25 +181,56 @@ shims_refer (Some m) (Some c) types [] debug_names = code_refers (Some c) [] deb
 shims_refer None (Some c) types (f ∷ fs) debug_names = code_refers (Some c) (f ∷ fs) debug_names
 shims_refer (Some m) (Some c) types (f ∷ fs) debug_names = code_refers (Some c) (f ∷ fs) debug_names
 
-calls_refer : (calls : List ℕ) → flat_map referred (flat_map start_step (map (λ (f : ℕ). Thunk f) calls)) ≡ []
-calls_refer [] = refl
-calls_refer (f ∷ fs) = calls_refer fs
+actions_refer : (users : List StartAction) → flat_map referred (flat_map start_step (map step_of users)) ≡ []
+actions_refer [] = refl
+actions_refer (actions.Call function ∷ users) = actions_refer users
+actions_refer (actions.CallHook function moment ∷ users) = actions_refer users
+
+-- a wrapper makes calls alone
+before_refers : (hook : ℕ) (before : Option TaskHook) (rest : List Instruction) → flat_map referred (hook_calls hook before ++ rest) ≡ flat_map referred rest
+before_refers hook None rest = refl
+before_refers hook (Some moment) rest = refl
+
+after_refers : (hook : ℕ) (after : AfterHook) (n : ℕ) → flat_map referred (after_code hook after n) ≡ []
+after_refers hook Nothing n = refl
+after_refers hook (Always moment) n = refl
+after_refers hook ByStatus n = refl
+
+wrapper_refers : (w : Wrapper) → body_refers (fixups.wrapper_body w) ≡ []
+wrapper_refers w =
+    let after : List Instruction = after_code w.hook w.bracket.after w.params in
+    before_refers w.hook w.bracket.before (gets w.params ++ (Call w.target ∷ after))
+    ∙ gets_refer 0 w.params (Call w.target ∷ after)
+    ∙ after_refers w.hook w.bracket.after w.params
+
+own_refers : (own : Option ℕ) (users : List StartAction) → flat_map body_refers (fixups.bodies_if own users) ≡ []
+own_refers None users = refl
+own_refers (Some type) users = ap (λ l. l ++ []) (actions_refer users)
+
+all_refer : (wrappers : List Wrapper) (rest : List Body) → flat_map body_refers rest ≡ [] → flat_map body_refers (map fixups.wrapper_body wrappers ++ rest) ≡ []
+all_refer [] rest none = none
+all_refer (w ∷ ws) rest none = ap (λ l. l ++ flat_map body_refers (map fixups.wrapper_body ws ++ rest)) (wrapper_refers w) ∙ all_refer ws rest none
 
 optional_refers : {A : Type 0} (section : A → Section) → ((x : A) → section_refers (section x) ≡ []) → (o : Option A) (rest : List Section) → flat_map section_refers rest ≡ [] → flat_map section_refers (fixups.optional section o ++ rest) ≡ []
 optional_refers section none None rest h = h
 optional_refers section none (Some x) rest h = ap (λ l. l ++ flat_map section_refers rest) (none x) ∙ h
 
-fixup_names_refer : (debug_names : Bool) (entries : List Import) (own : Option ℕ) → flat_map section_refers (fixups.names_of debug_names entries own) ≡ []
-fixup_names_refer false entries own = refl
-fixup_names_refer true entries own = refl
+section_refers_none : {A : Type 0} (section : List A → Section) (xs : List A) (rest : List Section) → section_refers (section xs) ≡ [] → flat_map section_refers rest ≡ [] → flat_map section_refers (fixups.section_if section xs ++ rest) ≡ []
+section_refers_none section [] rest none h = h
+section_refers_none section (x ∷ xs) rest none h = ap (λ l. l ++ flat_map section_refers rest) none ∙ h
+
+fixup_names_refer : (debug_names : Bool) (entries : List Import) (wrappers : List Wrapper) (own : Option ℕ) → flat_map section_refers (fixups.names_of debug_names entries wrappers own) ≡ []
+fixup_names_refer false entries wrappers own = refl
+fixup_names_refer true entries wrappers own = refl
 
 fixup_refers : (f : Fixup) (debug_names : Bool) → flat_map section_refers (fixups.fixup_sections f debug_names) ≡ []
 fixup_refers f debug_names =
-    optional_refers (λ (type : ℕ). sections.Functions (type ∷ [])) (λ type. refl) (fixups.own_type f) _
+    section_refers_none sections.Functions (fixups.function_types f) _ refl
+    (section_refers_none sections.Exports (fixups.exports_of f) _ refl
     (optional_refers (λ (function : ℕ). sections.Start function) (λ function. refl) (fixups.start_function f) _
     (optional_refers (λ (table : ℕ). sections.Elements (fixups.fill_segment table f.fills ∷ [])) (λ table. refl) (fixups.table_of f) _
-    (optional_refers (λ (type : ℕ). sections.Code (fixups.calling f.calls ∷ [])) (λ type. ap (λ l. l ++ []) (calls_refer f.calls)) (fixups.own_type f) _
-    (fixup_names_refer debug_names (fixups.all_imported f).entries (fixups.own_function f)))))
+    (section_refers_none sections.Code (fixups.bodies_of f) _ (all_refer f.wrappers (fixups.bodies_if (fixups.own_type f) f.users) (own_refers (fixups.own_type f) f.users))
+    (fixup_names_refer debug_names (fixups.all_imported f).entries f.wrappers (fixups.own_function f))))))
 
 -- so what they refer to is in their segments
 nothing_referred : (ss : List Section) → flat_map section_refers ss ≡ [] → AllByRecursion (Contains (flat_map section_declares ss)) (flat_map section_refers ss)

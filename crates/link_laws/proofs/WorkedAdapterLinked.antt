@@ -140,7 +140,7 @@ module _ (number number' : ℕ) (rest : List Answer) where
     is = refl;
     known = refl;
     named = record { number = 0; is = record { made = main_instance; present = refl; of = refl }; of = is_main; same_name = refl };
-    hooked = λ name e. absurd (none-some name e);
+    hooked = λ bracketed name is e. absurd (none-some name e);
     acts = record { same = λ arguments now fits kept. acts_alone m.store.code 0 0 refl arguments now ∙ ap (λ b. expected b 0 (opaque_at 0) arguments now) (sym (no_hooks kind)) };
   }
 
@@ -153,7 +153,7 @@ module _ (number number' : ℕ) (rest : List Answer) where
     is = refl;
     known = refl;
     named = record { number = 0; is = record { made = main_instance; present = refl; of = refl }; of = is_main; same_name = refl };
-    hooked = λ name e. absurd (none-some name e);
+    hooked = λ bracketed name is e. absurd (none-some name e);
     acts = record { same = λ arguments now fits kept. acts_alone m.store.code 1 1 refl arguments now };
   }
 
@@ -166,7 +166,7 @@ module _ (number number' : ℕ) (rest : List Answer) where
     is = refl;
     known = refl;
     named = record { number = 1; is = record { made = made_adapter; present = refl; of = refl }; of = is_adapter; same_name = refl };
-    hooked = λ name e. absurd (none-some name e);
+    hooked = λ bracketed name is e. absurd (none-some name e);
     acts = record { same = λ arguments now fits kept. acts_alone m.store.code 3 3 refl arguments now ∙ ap (λ b. expected b 0 (opaque_at 3) arguments now) (sym (no_hooks kind)) };
   }
 
@@ -373,7 +373,7 @@ not_of_adapter x =
 -- function 2 is main's h
 not_entered : CoreExportMeets world of_main_h (Some (entry_kind [])) 2 (of_adapter h) → ⊥
 not_entered x =
-    let plain : CoreExportMeets world of_main_h None 2 (of_adapter h) = record { target = x.target; what = x.what; item = x.item; hook = x.hook; is = x.is; known = x.known; named = x.named; hooked = x.hooked; acts = x.acts } in
+    let plain : CoreExportMeets world of_main_h None 2 (of_adapter h) = record { target = x.target; what = x.what; item = x.item; hook = x.hook; is = x.is; known = x.known; named = x.named; hooked = λ bracketed name is e. absurd (none-some bracketed is); acts = x.acts } in
     not_of_adapter (own_item world of_main_h 2 (ItemIsExport world of_main_h (of_adapter h)) plain 2 plain_core (ExportedBy 0 h) refl refl)
 
 abbrev entered : Option Function → ℕ

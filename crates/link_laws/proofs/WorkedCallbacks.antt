@@ -2,7 +2,7 @@
 -- a callback each. Their lifts are asynchronous, and each has its own callback. Where the two
 -- callbacks are crossed the run ends too, but the list isn't linked.
 use Rattle.std.proofs.Common.{inl, ◌≡◌, ◌∙◌, ℕ, false, true, List, [], ◌∷◌, refl, sym, ap, subst, Option, Some, None, map, take, arith}
-use Rattle.std.proofs.lemmas.Option.{same_Some}
+use Rattle.std.proofs.lemmas.Option.{none-some, same_Some}
 use Rattle.std.specs.List.{slice_get, IsDistinct}
 use Rattle.std.specs.Option.{option_and_then}
 use Rattle.std.specs.Str.{bytes_eq}
@@ -397,7 +397,7 @@ module _ (m : Machine) (found : option_and_then (export_of spaces.Func g) (expor
   -- core function 3 isn't main's c
   not_c : CoreMeets world m (Some brackets.Callback) 3 (ItemIsExport world m (of_main c)) → ⊥
   not_c x =
-      let bare : CoreMeets world m None 3 (ItemIsExport world m (of_main c)) = record { target = x.target; what = x.what; item = x.item; hook = x.hook; is = x.is; known = x.known; named = x.named; hooked = x.hooked; acts = x.acts } in
+      let bare : CoreMeets world m None 3 (ItemIsExport world m (of_main c)) = record { target = x.target; what = x.what; item = x.item; hook = x.hook; is = x.is; known = x.known; named = x.named; hooked = λ bracketed name is e. absurd (none-some bracketed is); acts = x.acts } in
       let same : d ≡ c = (own_item world m 3 (ItemIsExport world m (of_main c)) bare 3 callback_core (ExportedBy 0 d) opaque known).same_name in
       let letters : 0x64 ≡ 0x63 = ap letter same in
       absurd (omega (arith, letters))

@@ -1,7 +1,9 @@
 -- Worked examples: a main module that exports the function `i` with which it is initialized. The
--- fixup calls it once; where it is not called, or twice, a list runs to its end, and isn't linked.
+-- fixup calls it once; where it is not called, or twice, a list runs to its end, and isn't linked. Where
+-- main exports a task hook too, that is called before and after; with its two numbers crossed, such a
+-- list isn't linked.
 use Rattle.comp_links.specs.Naming.{own_names}
-use Rattle.std.proofs.Common.{◌≡◌, ◌∙◌, ℕ, List, [], ◌∷◌, map, refl, sym, Option, Some, None, false}
+use Rattle.std.proofs.Common.{◌≡◌, ◌∙◌, ℕ, List, [], ◌∷◌, map, refl, sym, ap, subst, arith, Option, Some, None, option_map, false}
 use Rattle.std.specs.Prelude.{codes}
 use Rattle.std.specs.List.{AllZip}
 use Rattle.comp_bytes.proofs.Worked.{core}
@@ -12,6 +14,9 @@ use Rattle.comp_bytes.specs.declared.def.Def.TheVariants as defs
 use Rattle.comp_bytes.specs.declared.space.Space.TheVariants as spaces
 use Rattle.core_types.specs.Core.{core_preamble}
 use Rattle.core_bytes.specs.declared.section.Section.{Section}
+use Rattle.core_runs.specs.declared.bracket.TaskHook.TheVariants.{InitializeStart, InitializeFinish}
+use Rattle.core_runs.specs.Expected.{hook_signature}
+use Rattle.core_runs.specs.Values.{Value, I32Value}
 use Rattle.core_runs.specs.Store.{Opaque, Answer, Gives, Traps, Event, Instantiated, Called}
 use Rattle.core_runs.specs.Execution.{exec, acts}
 use Rattle.comp_roles.specs.declared.exports.Export.TheVariants as exports
@@ -19,8 +24,9 @@ use Rattle.comp_roles.specs.declared.offered.ExternType.TheVariants as externs
 use Rattle.comp_worlds.specs.WorldTables.{whole_of}
 use Rattle.comp_worlds.specs.declared.world.ComponentWorld.{ComponentWorld}
 use Rattle.comp_runs.specs.Store.{ExportedBy}
-use Rattle.comp_runs.specs.Machine.{Machine, Outcome}
-use Rattle.fixup_modules.specs.Fixups.{Fixup, nothing_fixed, with_initialize}
+use Rattle.comp_runs.specs.Machine.{Machine}
+use Rattle.fixup_modules.specs.declared.actions.StartAction.TheVariants as actions
+use Rattle.fixup_modules.specs.Fixups.{Fixup, nothing_fixed, with_initialize, with_task_hook}
 use Rattle.fixup_modules.specs.Sections.{fixup_sections}
 use Rattle.link_laws.specs.Composition.{GeneratedModules}
 use Rattle.link_laws.specs.Linking.{outcome, of_main, MakesCall, IsLinked}
@@ -111,3 +117,70 @@ twice_is_not_linked l = by l.start_events (sym twice_called ∙ l.events) l.star
     by [] all started = cc
     by (e ∷ []) all started = cc
     by (e ∷ f ∷ es) all started = started.1
+
+-- ---- with a task hook
+
+abbrev h : List ℕ
+h = 0x68 ∷ []
+
+-- main exports a task hook too
+abbrev hooked_world : ComponentWorld
+hooked_world = whole_of (record {
+  resolve = record { interfaces = []; types = []; worlds = record { imports = []; exports = [] } ∷ [] };
+  world = record { index = 0 };
+  main = record {
+    bytes = core;
+    imports = record { modules = [] };
+    exports = record { exports = (i, exports.Initialize) ∷ (h, exports.WasmTaskHook) ∷ [] };
+    imported = [];
+    offered = (i, externs.Func plain_core) ∷ (h, externs.Func hook_signature) ∷ [];
+    metadata = record { import_encodings = []; export_encodings = [] };
+  };
+  main_exports = [];
+  adapters = [];
+  can_use_context_slot_1 = false;
+})
+
+-- the hook is called round the initialization: it is told that this begins, and that it ends
+abbrev hooked_once : Fixup
+hooked_once = with_task_hook calls_once h
+
+pub hooked_ends : option_map (λ (e : Ended). e.events) (ended (outcome hooked_world (with_fixup hooked_once) initialized (Gives [] 0 ∷ Gives [] 0 ∷ and_returned))) ≡ Some (Instantiated 0 ∷ Called 1 (I32Value 6 ∷ []) ∷ Called 0 [] ∷ Called 1 (I32Value 7 ∷ []) ∷ [])
+unfolding acts exec
+hooked_ends = refl
+
+-- where the hook traps, main isn't initialized
+pub hook_traps : is_trapped (outcome hooked_world (with_fixup hooked_once) initialized (Gives [] 0 ∷ Traps ∷ [])) ≡ Some 1
+unfolding acts exec
+hook_traps = refl
+
+-- ---- with the two numbers crossed
+
+-- the start function calls the hook with 7, the initialization, and the hook with 6
+abbrev crossed : Fixup
+crossed = record hooked_once { users = actions.CallHook 1 InitializeFinish ∷ actions.Call 0 ∷ actions.CallHook 1 InitializeStart ∷ [] }
+
+abbrev finished_first : Machine
+finished_first = machine_of (outcome hooked_world (with_fixup crossed) initialized (Gives [] 0 ∷ Gives [] 0 ∷ and_returned))
+
+finished_called : finished_first.now.events ≡ Instantiated 0 ∷ Called 1 (I32Value 7 ∷ []) ∷ Called 0 [] ∷ Called 1 (I32Value 6 ∷ []) ∷ []
+unfolding acts exec
+finished_called = refl
+
+abbrev number_of : List Value → ℕ
+number_of (I32Value n ∷ values) = n
+number_of values = 0
+
+not_begun : MakesCall hooked_world finished_first (Called 1 (I32Value 7 ∷ [])) (of_main h (I32Value 6 ∷ [])) → ⊥
+not_begun m = let other : 7 ≡ 6 = ap number_of m.7 in absurd (omega (arith, other))
+
+-- the first event is not the one that the world starts with
+pub crossed_is_not_linked : IsLinked own_names hooked_world (with_fixup crossed) finished_first → ⊥
+crossed_is_not_linked l = by l.start_events (sym finished_called ∙ l.events) l.started
+  where
+    by : (es : List Event) → Instantiated 0 ∷ Called 1 (I32Value 7 ∷ []) ∷ Called 0 [] ∷ Called 1 (I32Value 6 ∷ []) ∷ [] ≡ Instantiated 0 ∷ es →
+        AllZip (MakesCall hooked_world finished_first) es (of_main h (I32Value 6 ∷ []) ∷ of_main i [] ∷ of_main h (I32Value 7 ∷ []) ∷ []) → ⊥
+    by [] all started = started
+    by (e ∷ es) all started =
+        let first : e ≡ Called 1 (I32Value 7 ∷ []) = cc in
+        not_begun (subst (λ x. MakesCall hooked_world finished_first x (of_main h (I32Value 6 ∷ []))) first started.0)

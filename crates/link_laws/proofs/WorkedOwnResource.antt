@@ -236,7 +236,7 @@ pub shims_made : sections_of_shims None None (shims_of world) false ≡ shim_mod
 unfolding values_from digits
 shims_made = refl
 
-pub fixup_made : sections_of_fixup (shims_of world) None false ≡ fixup_module
+pub fixup_made : sections_of_fixup (shims_of world) None None false ≡ fixup_module
 unfolding values_from digits
 fixup_made = refl
 

@@ -167,7 +167,7 @@ shims_made : sections_of_shims None None (only_shim ∷ []) false ≡ table_shim
 unfolding digits
 shims_made = refl
 
-fixup_made : sections_of_fixup (only_shim ∷ []) None false ≡ table_fixup
+fixup_made : sections_of_fixup (only_shim ∷ []) None None false ≡ table_fixup
 fixup_made = refl
 
 abbrev pub generated : GeneratedModules

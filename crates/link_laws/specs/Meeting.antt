@@ -84,7 +84,7 @@ hooks_round w None = around None Nothing
 hooks_round w (Some kind) = if is_some (task_hook w) then bracket_of kind else around None Nothing
 
 -- A core function meets a target where it acts as an opaque function that is what the target names, with the hooks that
--- belong round it.
+-- belong round it: where it is one of those that have them, they are calls of main's task hook.
 pub record CoreMeets (w : ComponentWorld) (m : Machine) (kind : Option Bracketed) (address : ℕ) (IsNamed : CoreItem → Type 0) : Type 0 where
   pub target : Known
   pub what : ℕ
@@ -93,7 +93,7 @@ pub record CoreMeets (w : ComponentWorld) (m : Machine) (kind : Option Bracketed
   pub is : Is m.store.code target what
   pub known : slice_get m.store.known what ≡ Some item
   pub named : IsNamed item
-  pub hooked : (name : List ℕ) → task_hook w ≡ Some name → IsHook w m hook name
+  pub hooked : (bracketed : Bracketed) (name : List ℕ) → kind ≡ Some bracketed → task_hook w ≡ Some name → IsHook w m hook name
   pub acts : ActsAs m address (hooks_round w kind) hook target
 
 abbrev pub CoreExportMeets : ComponentWorld → Machine → Option Bracketed → ℕ → ExportRef → Type 0

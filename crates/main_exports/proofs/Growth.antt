@@ -1,5 +1,6 @@
 -- What was made stays what it is while definitions are added, and the root after several steps.
 use Rattle.std.proofs.Common.{◌∙◌, ◌<◌, ℕ, Option, List, [], ◌∷◌, sym, ap, subst, None}
+use Rattle.std.specs.Option.{option_copied}
 use Rattle.std.specs.List.{slice_get, AllByRecursion, AllZip}
 use Rattle.comp_lists.proofs.Lists.{AllZip-weaker}
 use Rattle.comp_bytes.specs.declared.def.Argument.{Argument}
@@ -20,7 +21,7 @@ use Rattle.comp_terms.specs.Planned.{type_of_function, IsLiftFor}
 use Rattle.comp_terms.specs.Terms as terms
 use Rattle.comp_items.proofs.Extending.{extends_none, extends_same, extends_then}
 use Rattle.comp_items.proofs.Kept.{Longer, denotes-kept, instance-kept, term-kept}
-use Rattle.core_options.proofs.OptionTerms.{option_sources_kept}
+use Rattle.core_options.proofs.OptionTerms.{option_sources_kept, hooked_kept}
 use Rattle.comp_items.proofs.Remembering.{longer}
 use Rattle.root_imports.specs.RootScopes.{AreTablesRight, ArePassed}
 use Rattle.nested_components.specs.declared.component.NestedComponent.{NestedComponent}
@@ -91,7 +92,8 @@ module _ (w : ComponentWorld) where
     valid = h.valid;
     user = user-kept (longer g.extends) h.user;
     tabled = h.tabled;
-    sources = option_sources_kept (longer g.extends) h.sources;
+    sources = λ needed. option_sources_kept (longer g.extends) (h.sources needed);
+    hooked = hooked_kept (longer g.extends) (option_copied e.hooked) h.hooked;
     realloc = h.realloc;
     tables = subst (λ l. AreTablesRight w l new.instances new.items.defs new.maps) (sym g.met) g.tables;
     passed = subst (ArePassed w) (sym g.met) h.passed;
@@ -103,7 +105,8 @@ module _ (w : ComponentWorld) where
     valid = h.valid;
     user = user-kept (longer g.extends) h.user;
     tabled = h.tabled;
-    sources = option_sources_kept (longer g.extends) h.sources;
+    sources = λ needed. option_sources_kept (longer g.extends) (h.sources needed);
+    hooked = hooked_kept (longer g.extends) (option_copied e.hooked) h.hooked;
     realloc = h.realloc;
     tables = g.tables;
     passed = subst (λ (last : Option TypeId). AllByRecursion (λ (t : List ℕ × TypeId). t.1.index < next_of last) (imported_types w)) (sym g.last) h.passed;

@@ -2,7 +2,7 @@
 -- rules are this project's own.)
 use Rattle.std.specs.Prelude.{◌≡◌, ◌<◌, ◌≤◌, ◌+◌, ℕ, length, true, List, [], ◌∷◌, ◌++◌, map, Option, Some, IsSome, slice_get, None}
 use Rattle.std.specs.List.{AllByRecursion, AllZip, IsDistinct, flat_map}
-use Rattle.std.specs.Option.{option_map}
+use Rattle.std.specs.Option.{option_copied, option_map}
 use Rattle.std.specs.Str.{bytes_eq}
 use Rattle.comp_bytes.specs.ItemIndices.{IsAt}
 use Rattle.comp_bytes.specs.ScopeNames.{item_export}
@@ -55,7 +55,7 @@ use Rattle.interface_needs.specs.RootNeeds.{IsUsableType}
 use Rattle.root_imports.specs.Keeping.{Root}
 use Rattle.core_options.specs.declared.modules.InstanceExport.{InstanceExport}
 use Rattle.core_options.specs.Causes.{IsEncodedExport}
-use Rattle.core_options.specs.MainOptions.{user_of, module_named, export_ref_of, IsAliasOf, AreOptionSources, HasLiftOptions}
+use Rattle.core_options.specs.MainOptions.{user_of, module_named, export_ref_of, IsCalledOf, AreHooked, AreOptionSources, HasLiftOptions}
 use Rattle.main_exports.specs.Tables.{AreTablesOf}
 use Rattle.main_exports.specs.declared.sources.UserInstance.{UserInstance}
 use Rattle.main_exports.specs.declared.sources.ModuleExports.{ModuleExports}
@@ -77,7 +77,8 @@ pub record AreExports (w : ComponentWorld) (e : ModuleExports) (root : Root) : T
   pub valid : IsEncodable w
   pub user : IsUserInstance w root.items.defs e.user
   pub tabled : AreTablesOf e.user.found.now.exports.exports e.tables
-  pub sources : AreOptionSources w root.items.defs e.sources
+  pub sources : (needed : ℕ) → AreOptionSources w root.items.defs needed e.sources
+  pub hooked : AreHooked w root.items.defs (option_copied e.hooked)
   pub realloc : option_map export_ref_of e.sources.realloc ≡ lift_realloc w (exporter e)
   pub tables : AreTablesRight w root.met root.instances root.items.defs root.maps
   pub passed : ArePassed w root.met
@@ -88,6 +89,7 @@ pub record IsOwnExport (e : ModuleExports) (name : List ℕ) (x : InstanceExport
   pub instance : x.instance ≡ e.user.instance
   pub of : module_name x.of ≡ module_name e.user.which
   pub named : x.name.now ≡ name
+  pub itself : x.alias.now ≡ name
 
 -- the same, if there is a name
 abbrev pub IsOwnExportIf : ModuleExports → Option (List ℕ) → Option InstanceExport → Type 0
@@ -116,7 +118,7 @@ pub record IsModuleFunction (w : ComponentWorld) (of : User) (f : FunctionKey) (
 pub record IsEntryOf (w : ComponentWorld) (of : User) (ds : List Def) (f : FunctionKey) (index : ℕ) : Type 0 where
   pub name : List ℕ
   pub said : core_name w (function_of of f) ≡ Some name
-  pub alias : IsAliasOf w ds index (export_of of name)
+  pub alias : IsCalledOf w ds index (export_of of name)
 
 -- the function of this index is the lift that the link table names, and it has the type of the function
 pub record IsTypedLift (w : ComponentWorld) (of : User) (ds : List Def) (f : FunctionKey) (function : WitFunction) (index : ℕ) : Type 0 where

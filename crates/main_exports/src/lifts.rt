@@ -23,13 +23,13 @@ use byte_encoding::BuildFault;
 use comp_bytes::{Argument, Sort};
 use comp_lists::{Keyed, Seq, Text};
 use comp_worlds::{ComponentWorld, FunctionKey};
-use core_options::{StateFault, alias_of};
+use core_options::{StateFault, alias_of_called};
 use root_imports::RootScope;
 use wit_data::{Function, InterfaceId, WorldKey};
 use world_values::function_key;
 
 impl ModuleExports<'_> {
-    /// The alias of the core export that implements a function.
+    /// The alias of what is called for the core export that implements a function.
     fn core_entry(
         &self,
         root: &mut RootScope<'_, ComponentWorld>,
@@ -47,7 +47,7 @@ impl ModuleExports<'_> {
         ensures cause { IfErr result IsRefusal }
     {
         let name = self.tables.implementation(required).unwrap();
-        let core = alias_of(root, self.own_export(name))?;
+        let core = alias_of_called(root, self.hooked, self.own_export(name))?;
         Ok(core)
     }
 

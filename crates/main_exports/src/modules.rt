@@ -4,8 +4,11 @@
 //! Component model, explainer: export definitions; Canonical ABI: `canon lift`.
 #![tactic(auto, using(crate::proofs::Growth::growing))]
 
-ghost use Rattle.std.specs.Prelude.{◌≡◌, length, map, Contains, IfErr, OnOk, Some};
+ghost use Rattle.std.specs.Prelude.{◌≡◌, length, map, Contains, IfErr, OnOk, Some, List, IfSome};
+ghost use Rattle.comp_worlds.specs.declared.world.ComponentWorld.{ComponentWorld};
+ghost use Rattle.comp_bytes.specs.declared.def.Def.{Def};
 ghost use Rattle.std.specs.List.{AllByRecursion, flat_map};
+ghost use Rattle.std.specs.Option.{option_map, option_copied};
 ghost use Rattle.comp_imports.specs.Names.{naming_of};
 ghost use Rattle.comp_links.specs.Lists.{keys_of_adapter, required_functions};
 ghost use Rattle.comp_links.specs.Targets.{Main};
@@ -15,7 +18,7 @@ ghost use Rattle.comp_worlds.specs.Encodable.{IsEncodable};
 ghost use Rattle.comp_worlds.specs.ExportOrder.{AreExportsInOrder};
 ghost use Rattle.comp_worlds.specs.Lookups.{module_name};
 ghost use Rattle.core_options.specs.Causes.{IsCause, IsEncodedExport};
-ghost use Rattle.core_options.specs.MainOptions.{AreUserInstances, HasLiftOptions, user_of};
+ghost use Rattle.core_options.specs.MainOptions.{AreUserInstances, HasLiftOptions, export_ref_of, user_of, AreHooked, IsInstanceExport, IsCalledExport, IsReallocSource};
 ghost use Rattle.root_imports.specs.Keeping.{RootMoved};
 ghost use Rattle.root_imports.specs.RootScopes.{AreTablesRight, ArePassed};
 ghost use Rattle.main_exports.specs.Exports.{AreExported, AreExportsAtHand, AreExportsReady, AreNextKeys, IsNextAdapter, IsUserInstance, key_for};
@@ -25,9 +28,31 @@ use crate::tables::ExportTables;
 use comp_imports::ImportNames;
 use comp_lists::Text;
 use comp_worlds::{ComponentWorld, CustomModule, WorldAdapter};
-use core_options::{OptionSources, StateFault, UserInstances, export_realloc_of};
+use core_options::{
+    HookedExports, InstanceExport, OptionSources, StateFault, UserInstances, export_realloc_of,
+    hooked_export,
+};
 use root_imports::RootScope;
 use wit_data::WorldKey;
+
+/// What is called for an export, if one is given.
+fn called_if<'a>(
+    hooked: Option<&'a HookedExports>,
+    export: Option<InstanceExport<'a>>,
+) -> Option<InstanceExport<'a>>
+    ensures same { option_map export_ref_of result ≡ option_map export_ref_of export.entry }
+    ensures source { (w : ComponentWorld)
+        → (ds : List Def)
+        → IfSome export.entry (IsInstanceExport w ds)
+        → AreHooked w ds (option_copied hooked.entry)
+        → IfSome export.entry (λ e. IsCalledExport w (export_ref_of e))
+        → IfSome result (IsReallocSource w ds) }
+{
+    match export {
+        Some(export) => Some(hooked_export(hooked, export)),
+        None => None,
+    }
+}
 
 /// Lifts and exports what is required of a user module, in order: the next keys of the world.
 /// Functions are lifted from the module's own instance, with its realloc, its string encodings, its
@@ -42,6 +67,7 @@ fn export_module(
     requires ready { AreExportsReady root.old.world.now root.old }
     requires user { IsUserInstance root.old.world.now root.old.items.defs user }
     requires made { AreUserInstances root.old.world.now root.old.items.defs instances.now }
+    requires hooked { AreHooked root.old.world.now root.old.items.defs instances.now.hooked }
     requires next { AreNextKeys root.old.world.now (user_of user.which) user.found.now
         (exports_in root.old.items.defs) keys.now }
     ensures moved { RootMoved root.old.world.now root.old root.new }
@@ -54,18 +80,14 @@ fn export_module(
 {
     let world = root.world;
     let tables = ExportTables::of(root.items.allocator(), &user.found.exports.exports)?;
+    let realloc = export_realloc_of(world, user.which, user.found, instances.main, user.instance);
     let exports = ModuleExports {
         user,
         tables,
+        hooked: instances.hooked.as_ref(),
         sources: OptionSources {
             memory: instances.memory,
-            realloc: export_realloc_of(
-                world,
-                user.which,
-                user.found,
-                instances.main,
-                user.instance,
-            ),
+            realloc: called_if(instances.hooked.as_ref(), realloc),
         },
         names: *names,
     };
@@ -80,6 +102,7 @@ fn export_main(
 ) -> Result<(), StateFault>
     requires ready { AreExportsReady root.old.world.now root.old }
     requires made { AreUserInstances root.old.world.now root.old.items.defs instances.now }
+    requires hooked { AreHooked root.old.world.now root.old.items.defs instances.now.hooked }
     requires none { exports_in root.old.items.defs ≡ 0 }
     ensures moved { RootMoved root.old.world.now root.old root.new }
     ensures at_hand { AreExportsAtHand root.old.world.now root.new.met
@@ -130,6 +153,7 @@ fn export_adapter(
 ) -> Result<(), StateFault>
     requires ready { AreExportsReady root.old.world.now root.old }
     requires made { AreUserInstances root.old.world.now root.old.items.defs instances.now }
+    requires hooked { AreHooked root.old.world.now root.old.items.defs instances.now.hooked }
     requires next { IsNextAdapter root.old.world.now (exports_in root.old.items.defs) name.now
         adapter.now }
     ensures moved { RootMoved root.old.world.now root.old root.new }
@@ -157,6 +181,7 @@ fn export_adapters(
 ) -> Result<(), StateFault>
     requires ready { AreExportsReady root.old.world.now root.old }
     requires made { AreUserInstances root.old.world.now root.old.items.defs instances.now }
+    requires hooked { AreHooked root.old.world.now root.old.items.defs instances.now.hooked }
     requires behind { exports_in root.old.items.defs ≡ length root.old.world.now.main_exports }
     ensures moved { RootMoved root.old.world.now root.old root.new }
     ensures at_hand { AreExportsAtHand root.old.world.now root.new.met
@@ -183,6 +208,7 @@ pub fn export_all(
 ) -> Result<(), StateFault>
     requires valid { IsEncodable root.old.world.now }
     requires made { AreUserInstances root.old.world.now root.old.items.defs instances.now }
+    requires hooked { AreHooked root.old.world.now root.old.items.defs instances.now.hooked }
     requires tables { AreTablesRight root.old.world.now root.old.met root.old.instances
         root.old.items.defs root.old.maps }
     requires passed { ArePassed root.old.world.now root.old.met }

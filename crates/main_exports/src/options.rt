@@ -21,7 +21,7 @@ use comp_bytes::CanonicalOption;
 use comp_lists::Seq;
 use comp_options::RequiredOptions;
 use comp_worlds::{ComponentWorld, FunctionKey};
-use core_options::{StateFault, alias_if, options_for};
+use core_options::{StateFault, alias_if_called, options_for};
 use root_imports::RootScope;
 use standard_kinds::StringEncoding;
 use std::alloc::AllocError;
@@ -145,7 +145,7 @@ impl ModuleExports<'_> {
         let form = self.tables.form(required);
         let mut options = self.needed_options(root, form, required, function)?;
         let export = self.own_export_if(self.tables.follower(form, required));
-        let follower = alias_if(root, export)?;
+        let follower = alias_if_called(root, self.hooked, export)?;
         push_follower(&mut options, form, follower)?;
         Ok(options)
     }

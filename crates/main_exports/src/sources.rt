@@ -7,7 +7,7 @@ use crate::tables::ExportTables;
 use comp_imports::ImportNames;
 use comp_lists::Text;
 use comp_worlds::{CustomModule, ValidatedModule};
-use core_options::{InstanceExport, OptionSources};
+use core_options::{HookedExports, InstanceExport, OptionSources};
 
 /// A user module that is instantiated.
 #[derive(Clone, Copy)]
@@ -27,6 +27,8 @@ pub(crate) struct ModuleExports<'a> {
     pub user: UserInstance<'a>,
     /// Its core exports, by the functions that they belong to.
     pub tables: ExportTables,
+    /// What calls main's task hook round them.
+    pub hooked: Option<&'a HookedExports>,
     /// Main's memory, and the realloc of calls of the module's exports.
     pub sources: OptionSources<'a>,
     /// How the names of interfaces are made.
@@ -42,6 +44,8 @@ impl ModuleExports<'_> {
             instance: self.user.instance,
             of: self.user.which,
             name: name.as_str(),
+            alias: name.as_str(),
+            debug: name.as_str(),
         }
     }
 

@@ -87,14 +87,16 @@ arguments_end w all old new arguments rest h ended =
 -- ---- the instances from which the fixup imports
 
 -- they are there, where the instance of the shims is there if there are shims
-pub all_there : (w : ComponentWorld) (ds : List Def) (shim_instance : Option ℕ) (shims : List Shim) (initialize : Option (List ℕ)) → ((shims ≡ [] → ⊥) → IsShimsAt w ds shim_instance) →
-    AllByRecursion (λ (i : List ℕ × ImportedInstance). IsSourceThere w ds shim_instance i.1) (fixup_instances shims initialize)
-all_there w ds shim_instance [] None h = tt
-all_there w ds shim_instance [] (Some name) h = (tt, tt)
-all_there w ds shim_instance (s ∷ ss) None h = (tt, (h (λ e. cc), tt))
-all_there w ds shim_instance (s ∷ ss) (Some name) h = (tt, (tt, (h (λ e. cc), tt)))
+pub all_there : (w : ComponentWorld) (ds : List Def) (shim_instance : Option ℕ) (shims : List Shim) (initialize hook : Option (List ℕ)) → ((shims ≡ [] → ⊥) → IsShimsAt w ds shim_instance) →
+    AllByRecursion (λ (i : List ℕ × ImportedInstance). IsSourceThere w ds shim_instance i.1) (fixup_instances shims initialize hook)
+all_there w ds shim_instance [] None None h = tt
+all_there w ds shim_instance [] None (Some hook) h = (tt, tt)
+all_there w ds shim_instance [] (Some name) hook h = (tt, tt)
+all_there w ds shim_instance (s ∷ ss) None None h = (tt, (h (λ e. cc), tt))
+all_there w ds shim_instance (s ∷ ss) None (Some hook) h = (tt, (tt, (h (λ e. cc), tt)))
+all_there w ds shim_instance (s ∷ ss) (Some name) hook h = (tt, (tt, (h (λ e. cc), tt)))
 
 -- and then each shim has what it needs
-pub all_offered : (w : ComponentWorld) (shims : List Shim) (initialize : Option (List ℕ)) → shims_of w ≡ shims → AllByRecursion (λ (i : List ℕ × ImportedInstance). HasSourceOptions w i.1) (fixup_instances shims initialize) → AllByRecursion (HasShimOptions w) (shims_of w)
-all_offered w [] initialize same h = subst (AllByRecursion (HasShimOptions w)) (sym same) tt
-all_offered w (s ∷ ss) initialize same h = h.0
+pub all_offered : (w : ComponentWorld) (shims : List Shim) (initialize hook : Option (List ℕ)) → shims_of w ≡ shims → AllByRecursion (λ (i : List ℕ × ImportedInstance). HasSourceOptions w i.1) (fixup_instances shims initialize hook) → AllByRecursion (HasShimOptions w) (shims_of w)
+all_offered w [] initialize hook same h = subst (AllByRecursion (HasShimOptions w)) (sym same) tt
+all_offered w (s ∷ ss) initialize hook same h = h.0

@@ -1,5 +1,5 @@
 -- The entries of the inline instance that the fixup is given.
-use Rattle.std.proofs.Common.{◌≡◌, ◌∙◌, ℕ, List, [], ◌∷◌, ◌++◌, refl, sym, ap, subst, append_assoc, append-nil, Contains, arith, suc, map, length, Bool, true, false, ◌+◌, ◌<◌, ◌≤◌, ◌^◌}
+use Rattle.std.proofs.Common.{◌≡◌, ◌∙◌, ℕ, List, [], ◌∷◌, ◌++◌, refl, sym, ap, subst, append_assoc, append-nil, Contains, absurd, Option, Some, None, arith, suc, map, length, Bool, true, false, ◌+◌, ◌<◌, ◌≤◌, ◌^◌}
 use Rattle.std.specs.Fmt.{decimal}
 use Rattle.std.specs.List.{AllByRecursion, AllZip, IsDistinct}
 use Rattle.std.specs.Str.{bytes_eq}
@@ -24,7 +24,7 @@ use Rattle.comp_terms.specs.Planned.{IsItemFor, IsFillFor, AreFillsFor}
 use Rattle.comp_terms.specs.Rules.{Grows, IsEntry, AreEntries}
 use Rattle.comp_items.specs.Items.{Extends}
 use Rattle.comp_items.proofs.Extending.{extends_none, extends_then}
-use Rattle.comp_items.proofs.Kept.{Longer, term-kept, term_in_range}
+use Rattle.comp_items.proofs.Kept.{Longer, term-kept, term_in_range, instance-kept}
 use Rattle.comp_items.proofs.Remembering.{longer}
 use Rattle.root_imports.specs.Growing.{Grows-none, Grows-by, Grows-then, longer_by}
 use Rattle.root_imports.proofs.Growth.{tables_kept}
@@ -41,10 +41,14 @@ use Rattle.shim_targets.proofs.EachShim.{each_stands}
 use Rattle.core_options.proofs.OptionTerms.{instances_kept}
 use Rattle.root_imports.proofs.Keeping.{kept_items, kept_none}
 use Rattle.root_imports.specs.Keeping.{Root, RootKept}
-use Rattle.main_fixup.specs.Filling.{AreFillSources, HasShimOptions}
+use Rattle.main_fixup.specs.Filling.{AreFillSources, HasShimOptions, IsShimsAt}
 use Rattle.main_fixup.specs.declared.sources.FillSources.{FillSources}
 
 -- ---- what stays while definitions are added
+
+pub shims_at_kept : {w : ComponentWorld} {old new : List Def} → Longer old new → (instance : Option ℕ) → IsShimsAt w old instance → IsShimsAt w new instance
+shims_at_kept g None h = absurd h
+shims_at_kept g (Some instance) h = instance-kept g h
 
 pub sources-kept : {w : ComponentWorld} {s : FillSources} {met : MetTypes} {old new : Built} {maps : TypeEncodingMaps} {instances : List (InterfaceId × ℕ)} → Extends old new → AreFillSources w s met old.defs maps instances →
     AreFillSources w s met new.defs maps instances
@@ -53,6 +57,8 @@ sources-kept {w} {s} {met} {old} {new} {maps} {instances} g h = record {
   imports = FindsImports-kept (longer g) h.imports;
   used = h.used;
   users = instances_kept (longer g) h.users;
+  shims = h.shims;
+  shims_made = λ any. shims_at_kept (longer g) s.shim_instance (h.shims_made any);
   tables = tables_kept w met instances old new maps g h.tables;
   passed = h.passed;
   exports = h.exports;
@@ -69,6 +75,8 @@ sources-moved {s} old new g h =
       imports = FindsImports-kept (longer g.extends) h.imports;
       used = h.used;
       users = instances_kept (longer g.extends) h.users;
+      shims = h.shims;
+      shims_made = λ any. shims_at_kept (longer g.extends) s.shim_instance (h.shims_made any);
       tables = g.tables;
       passed = h.passed;
       exports = h.exports;

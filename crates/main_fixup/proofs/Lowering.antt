@@ -159,6 +159,7 @@ needed_refused w s i h own set needed is e refused =
     one (faults.NoEncoding place) r = absurd r
     one (faults.NotYetMade adapter name) r = absurd r
     one (faults.LaterExport interface used) r = absurd r
+    one (faults.InstanceKind other) r = absurd r
 
 pub shim_refused : (w : ComponentWorld) (s : Shim) (i : UserImport) → StandsFor w s i → (own : Option ExportRef) → own ≡ role_realloc w i.of i.core.role → (e : StateFault) → IsOptionRefusal w s.options.0 own s.debug_name e → IsCauseAmong w (user_imports w) [] e
 shim_refused w s i h own is e refused = needed_refused w s i h own s.options.0 h.options (λ n. is) e refused
@@ -175,3 +176,4 @@ no_memory w s i h ds memory there (faults.NoEncoding place) n = absurd n
 no_memory w s i h ds memory there (faults.NoRealloc place) n = absurd n
 no_memory w s i h ds memory there (faults.NotYetMade adapter name) n = absurd n
 no_memory w s i h ds memory there (faults.LaterExport interface used) n = absurd n
+no_memory w s i h ds memory there (faults.InstanceKind other) n = absurd n

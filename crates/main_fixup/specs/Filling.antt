@@ -1,6 +1,6 @@
 -- What is behind shims, and what that needs (Canonical ABI: `canon lower`; component model,
 -- explainer: core instances, the destructor of a resource type).
-use Rattle.std.specs.Prelude.{◌≡◌, ℕ, List, [], Option, Some, None, true, map, Contains, IsTrue}
+use Rattle.std.specs.Prelude.{◌≡◌, ◌⊎◌, ℕ, List, [], Option, Some, None, true, map, Contains, IsTrue, IfSome}
 use Rattle.std.specs.List.{AllByRecursion}
 use Rattle.std.specs.Option.{option_map}
 use Rattle.standard_kinds.specs.declared.kinds.StringEncoding.{StringEncoding}
@@ -17,20 +17,22 @@ use Rattle.comp_worlds.specs.Encodable.{IsEncodable}
 use Rattle.comp_worlds.specs.ExportOrder.{AreExportsInOrder}
 use Rattle.comp_worlds.specs.WorldContents.{items_of}
 use Rattle.comp_worlds.specs.declared.world.ComponentWorld.{ComponentWorld}
-use Rattle.comp_links.specs.Links.{link_of, lower_needs, lower_options, role_realloc, task_return}
+use Rattle.comp_links.specs.Links.{module_of, link_of, lower_needs, lower_options, role_realloc, task_return}
 use Rattle.comp_links.specs.Lists.{IsOriginOf}
 use Rattle.comp_links.specs.Roles.{is_used, is_used_of, import_encoding}
 use Rattle.comp_links.specs.Modules.{IsModule, UserImport, user_imports}
 use Rattle.comp_links.specs.Targets.{UserModule as User, ExportRef, WorldFunction, OfRoot, OfInterface, Lowered, BuiltIn, NoType, operand_if_any, payload_operand}
+use Rattle.comp_roles.specs.declared.libraries.MainOrAdapter.{MainOrAdapter}
 use Rattle.comp_roles.specs.declared.payloads.PayloadFuncKind.{PayloadFuncKind}
 use Rattle.comp_roles.specs.declared.payloads.PayloadInfo.{PayloadInfo}
 use Rattle.comp_options.specs.Options.{needs, realloc_bit}
 use Rattle.shim_plan.specs.Needed.{function_options}
+use Rattle.shim_plan.specs.declared.kinds.ShimKind.TheVariants as kinds
 use Rattle.shim_plan.specs.declared.memory_functions.MemoryFunction.{MemoryFunction}
 use Rattle.shim_plan.specs.declared.shims.Shim.{Shim}
 use Rattle.fixup_modules.specs.declared.instances.ImportedInstance.{ImportedInstance}
 use Rattle.fixup_modules.specs.declared.instances.ImportedInstance.TheVariants as from
-use Rattle.world_shims.specs.WorldShims.{shims_of}
+use Rattle.world_shims.specs.WorldShims.{shims_of, hook_of}
 use Rattle.comp_terms.specs.Generated.{shims_number, interface_imported, Purpose, target_of, HasPurpose}
 use Rattle.comp_terms.specs.Planned.{IsTypeOf, IsItemFor}
 use Rattle.comp_terms.specs.Rules.{Grows}
@@ -47,17 +49,36 @@ use Rattle.core_options.specs.MainOptions.{IsFunctionOf, AreUserInstances, Offer
 use Rattle.shim_targets.specs.ShimTargets.{StandsFor}
 use Rattle.main_fixup.specs.declared.sources.FillSources.{FillSources}
 
+-- the instance of the module of shims is there
+abbrev pub IsShimsAt : ComponentWorld → List Def → Option ℕ → Type 0
+IsShimsAt w ds None = ⊥
+IsShimsAt w ds (Some instance) = IsInstanceOf ds instance (shims_number w)
+
 -- what the lowerings need is there, and the tables of types are right, with the instances of the
--- interfaces and of the user modules
+-- interfaces, of the user modules and of the shims
 pub record AreFillSources (w : ComponentWorld) (s : FillSources) (met : MetTypes) (ds : List Def) (maps : TypeEncodingMaps) (instances : List (InterfaceId × ℕ)) : Type 0 where
   pub valid : IsEncodable w
   pub imports : FindsImports w ds s.functions.now
   pub used : FindsUsed w s.functions.now
   pub users : AreUserInstances w ds s.instances.now
+  pub shims : s.shims.now ≡ shims_of w
+  pub shims_made : (shims_of w ≡ [] → ⊥) → IsShimsAt w ds s.shim_instance
   pub tables : AreTablesRight w met instances ds maps
   pub passed : ArePassed w met
   pub exports : AreExportsMet w met
   pub ordered : AreExportsInOrder w
+
+-- a shim stands for this realloc
+pub record HasReallocShim (w : ComponentWorld) (e : ExportRef) : Type 0 where
+  pub shim : Shim
+  pub which : MainOrAdapter
+  pub planned : Contains (shims_of w) shim
+  pub kind : shim.kind ≡ kinds.Realloc which e.name
+  pub same : module_of which ≡ e.of
+
+-- if there is a realloc, lowerings can have it: main has no task hook, or a shim stands for it
+abbrev pub IsReallocAtHand : ComponentWorld → Option ExportRef → Type 0
+IsReallocAtHand w realloc = IfSome realloc (λ e. (hook_of w ≡ None) ⊎ HasReallocShim w e)
 
 -- the same, of what a component has at its root so far
 abbrev pub HasFillSources : RootScope ComponentWorld → FillSources → Type 0
@@ -169,11 +190,6 @@ pub record ServesShim (w : ComponentWorld) (ds : List Def) (s : Shim) (index : �
   pub serves : IsItemFor w ds spaces.CoreFunc index (target_of w purpose)
 
 -- ---- the arguments of the fixup
-
--- the instance of the module of shims is there
-abbrev pub IsShimsAt : ComponentWorld → List Def → Option ℕ → Type 0
-IsShimsAt w ds None = ⊥
-IsShimsAt w ds (Some instance) = IsInstanceOf ds instance (shims_number w)
 
 -- what the fixup imports from is there, or is made for it
 abbrev pub IsSourceThere : ComponentWorld → List Def → Option ℕ → ImportedInstance → Type 0

@@ -9,6 +9,7 @@ ghost use Rattle.root_imports.specs.Keeping.{RootKept};
 ghost use Rattle.world_shims.specs.WorldShims.{shims_of};
 
 use crate::fills::actual_instance;
+use crate::modules::instance_of_adapter;
 use crate::sources::FillSources;
 use comp_bytes::CoreArgument;
 use comp_lists::{Seq, Text};
@@ -19,7 +20,7 @@ use root_imports::RootScope;
 use shim_plan::Shims;
 
 /// The instance that the fixup imports from: one with what the shims stand for, which is made here,
-/// main, or the module of shims.
+/// main, an adapter, or the module of shims.
 fn source_instance(
     root: &mut RootScope<'_, ComponentWorld>,
     sources: &FillSources<'_>,
@@ -41,7 +42,7 @@ fn source_instance(
         ImportedInstance::Actual => actual_instance(root, sources, shims),
         ImportedInstance::Main => Ok(sources.instances.main),
         ImportedInstance::Shim => Ok(shim_instance.unwrap()),
-        ImportedInstance::Adapter(_) => unreachable!(),
+        ImportedInstance::Adapter(name) => Ok(instance_of_adapter(root, sources, name)),
     }
 }
 

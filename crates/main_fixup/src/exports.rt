@@ -39,6 +39,8 @@ fn export_at(
         instance,
         of,
         name: name.as_str(),
+        alias: name.as_str(),
+        debug: name.as_str(),
     };
     let index = alias_of(root, export)?;
     Ok(index)

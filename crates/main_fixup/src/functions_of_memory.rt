@@ -35,7 +35,8 @@ fn function_behind(
     function: MemoryFunction,
 ) -> Result<u32, StateFault>
     requires valid { IsEncodable root.old.world.now }
-    requires sources { AreOptionSources root.old.world.now root.old.items.defs sources.now }
+    requires sources { AreOptionSources root.old.world.now root.old.items.defs
+        (function_options function).0 sources.now }
     requires behind { IsFunctionBehind root.old.world.now shim.now function
         (option_map export_ref_of sources.now.realloc) }
     ensures same { root.new ≡ record root.old { items = root.new.items } }
@@ -107,7 +108,7 @@ pub(crate) fn message_behind(
     ensures offered { OnOk result (HasShimOptions root.old.world.now shim.now) }
     ensures cause { IfErr result (IsFillCause root.old) }
 {
-    let calls = options_of_calls(root, sources, which);
+    let calls = options_of_calls(root, sources, which)?;
     let function = MemoryFunction::ErrorMessage { encoding };
     let index = function_behind(root, &calls, shim, function)?;
     Ok(index)

@@ -41,7 +41,8 @@ fn lower_function(
     function: u32,
 ) -> Result<u32, StateFault>
     requires valid { IsEncodable root.old.world.now }
-    requires sources { AreOptionSources root.old.world.now root.old.items.defs sources.now }
+    requires sources { AreOptionSources root.old.world.now root.old.items.defs
+        shim.now.options.0 sources.now }
     requires behind { IsBehind root.old.world.now root.old.items.defs shim.now encoding
         (option_map export_ref_of sources.now.realloc) function }
     ensures same { root.new ≡ record root.old { items = root.new.items } }
@@ -93,7 +94,8 @@ fn return_behind(
     encoding: StringEncoding,
 ) -> Result<u32, StateFault>
     requires valid { IsEncodable root.old.world.now }
-    requires sources { AreOptionSources root.old.world.now root.old.items.defs sources.now }
+    requires sources { AreOptionSources root.old.world.now root.old.items.defs
+        shim.now.options.0 sources.now }
     requires behind { IsReturnBehind root.old.world.now shim.now encoding
         (option_map export_ref_of sources.now.realloc) interface ty }
     requires passed { ArePassed root.old.world.now root.old.met }
@@ -139,7 +141,7 @@ pub(crate) fn function_behind(
             encoding,
         } => {
             let index = imported_function(root, sources, interface, &function.name)?;
-            let options = options_of_calls(root, sources, realloc);
+            let options = options_of_calls(root, sources, realloc)?;
             let lowered = lower_function(root, &options, shim, *encoding, index)?;
             Ok(lowered)
         }
@@ -150,7 +152,7 @@ pub(crate) fn function_behind(
             encoding,
             ..
         } => {
-            let given = options_of_calls(root, sources, for_module);
+            let given = options_of_calls(root, sources, for_module)?;
             let returned = return_behind(root, &given, shim, *interface, *result, *encoding)?;
             Ok(returned)
         }

@@ -37,7 +37,8 @@ fn access_behind(
     encoding: StringEncoding,
 ) -> Result<u32, StateFault>
     requires valid { IsEncodable root.old.world.now }
-    requires sources { AreOptionSources root.old.world.now root.old.items.defs sources.now }
+    requires sources { AreOptionSources root.old.world.now root.old.items.defs
+        shim.now.options.0 sources.now }
     requires behind { IsAccessBehind root.old.world.now shim.now info.now kind encoding
         (option_map export_ref_of sources.now.realloc) }
     requires of { IsPayloadFor root.old.world.now (payload_scope info.now) info.now.ty }
@@ -80,7 +81,7 @@ pub(crate) fn payload_behind(
     let alloc = root.items.allocator();
     let found = validated_module(root.world, which);
     let encoding = payload_encoding(alloc, found, info)?;
-    let given = options_of_payload(root, sources, which, info.imported);
+    let given = options_of_payload(root, sources, which, info.imported)?;
     let index = access_behind(root, &given, shim, info, kind, encoding)?;
     Ok(index)
 }

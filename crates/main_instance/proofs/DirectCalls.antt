@@ -185,6 +185,7 @@ module _ (w : ComponentWorld) (ok : IsEncodable w) (of : User) (m : ValidatedMod
       nothing (faults.NoEncoding x) none h = absurd h
       nothing (faults.NotYetMade adapter name) none h = absurd h
       nothing (faults.LaterExport interface used) none h = absurd h
+      nothing (faults.InstanceKind other) none h = absurd h
       nothing (faults.TooMany excess) none h = absurd h
 
       by : (o : Option MemoryType) → shared_memory w ≡ o → IsCauseAmong w (record { of = of; core = i } ∷ []) [] e

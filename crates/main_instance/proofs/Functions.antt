@@ -66,6 +66,7 @@ list_refused w given set memory name plain (faults.NoRealloc place) h = absurd (
 list_refused w given set memory name plain (faults.NoEncoding place) h = absurd h
 list_refused w given set memory name plain (faults.NotYetMade adapter other) h = absurd h
 list_refused w given set memory name plain (faults.LaterExport interface used) h = absurd h
+list_refused w given set memory name plain (faults.InstanceKind other) h = absurd h
 list_refused w given set memory name plain (faults.TooMany excess) h = absurd h
 
 module _ (w : ComponentWorld) (ok : IsEncodable w) (u : UserModule) (user : IsUser w u) (i : CoreImport) (present : Contains (imports_of u.found.now) i) (function : MemoryFunction) (is : memory_function i.role ≡ Some function) where

@@ -89,6 +89,7 @@ list_not_refused w given set memory name there plain faults.TlsTypes h = absurd 
 list_not_refused w given set memory name there plain (faults.NoEncoding place) h = absurd h
 list_not_refused w given set memory name there plain (faults.NotYetMade adapter other) h = absurd h
 list_not_refused w given set memory name there plain (faults.LaterExport interface used) h = absurd h
+list_not_refused w given set memory name there plain (faults.InstanceKind other) h = absurd h
 list_not_refused w given set memory name there plain (faults.TooMany excess) h = absurd h
 
 -- ---- a return

@@ -83,6 +83,7 @@ module _ (w : ComponentWorld) (of : User) (m : ValidatedModule) (there : module_
   unencoded i needs (faults.NoRealloc place) h = absurd h
   unencoded i needs (faults.NotYetMade adapter name) h = absurd h
   unencoded i needs (faults.LaterExport interface used) h = absurd h
+  unencoded i needs (faults.InstanceKind other) h = absurd h
   unencoded i needs (faults.TooMany excess) h = absurd h
 
   -- what holds of its role holds of one of the fields of all imports

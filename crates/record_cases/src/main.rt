@@ -24,7 +24,7 @@ impl Topic for Inputs {
     fn of(name: &str) -> Option<Inputs> {
         let kind = match name {
             "records.txt" => Kind::Records,
-            "pairs.txt" | "left_out_pairs.txt" => Kind::Pairs,
+            "pairs.txt" => Kind::Pairs,
             "groups.txt" => Kind::Groups,
             _ => Kind::Modules,
         };

@@ -1,5 +1,5 @@
 -- What the imports of a fixup are given: the functions of `actual`, in order, the function with
--- which main is initialized, and the table of the shims.
+-- which main is initialized, its task hook, and the table of the shims.
 use Rattle.std.proofs.Common.{◌≡◌, ◌∙◌, ◌+◌, ◌<◌, ◌≤◌, ◌^◌, ℕ, suc, List, [], ◌∷◌, ◌++◌, length, map, cond, if◌then◌else◌, Option, Some, None, option_map, codes, append_assoc, refl, sym, ap, arith}
 use Rattle.std.specs.Fmt.{decimal}
 use Rattle.std.specs.List.{AllByRecursion, AllZip}
@@ -9,24 +9,27 @@ use Rattle.std.specs.Str.Parse.{IsNumeral}
 use Rattle.comp_lists.proofs.Lists.{AllByRecursion-weaker, AllByRecursion-push}
 use Rattle.comp_bytes.specs.Spaces.{is_space}
 use Rattle.comp_bytes.specs.declared.space.Space.TheVariants as spaces
+use Rattle.standard_kinds.specs.declared.kinds.ExportKind.{ExportKind}
 use Rattle.standard_kinds.specs.declared.kinds.ExportKind.TheVariants as kinds
 use Rattle.core_types.specs.declared.types.FuncType.{FuncType}
 use Rattle.core_types.specs.declared.types.ValType.{ValType}
 use Rattle.core_bytes.specs.declared.entry.Import.{Import}
 use Rattle.core_runs.specs.Store.{Store}
+use Rattle.core_runs.specs.Expected.{hook_signature}
 use Rattle.core_runs.specs.Instances.{Given, FunctionAt, TableAt}
 use Rattle.interned_types.specs.Interning.{interned}
+use Rattle.fixup_modules.specs.Fixups.{thunk}
 use Rattle.fixup_modules.specs.Sections.{table_name}
 use Rattle.comp_runs.specs.Store.{Thing, Export}
 use Rattle.comp_runs.specs.Machine.{export_named, all_some}
 use Rattle.comp_runs.specs.Instances.{Arguments, argument_for, of_kind, entity_kind, external}
 use Rattle.shim_plan.specs.Plans.{AreNumbered}
 use Rattle.shim_plan.specs.declared.shims.Shim.{Shim}
-use Rattle.world_shims.specs.WorldShims.{type_of_shim, types_with}
-use Rattle.shim_runs.specs.ShimRuns.{table_exported, memory_exported, cell_exported, instance_exports, IsActual, AreCalls, fixup_arguments}
+use Rattle.world_shims.specs.WorldShims.{type_of_shim, types_with, main_if, shim_if}
+use Rattle.shim_runs.specs.ShimRuns.{table_exported, memory_exported, cell_exported, instance_exports, exports_given, IsActual, IsCallIf, address_if, fixup_arguments, CanFix}
 use Rattle.world_shims.proofs.Digits.{same_name, other_digits}
 use Rattle.shim_runs.proofs.Exported.{behind_shims}
-use Rattle.world_shims.proofs.FixupImports.{imports_of, call_imports, table_imports}
+use Rattle.world_shims.proofs.FixupImports.{imports_of, hook_imports, start_imports, table_imports}
 
 -- ---- the table
 
@@ -97,47 +100,110 @@ abbrev pub table_things : List Shim → ℕ → List Thing
 table_things [] table = []
 table_things (s ∷ ss) table = record { space = spaces.CoreTable; address = table } ∷ []
 
-abbrev pub things_given : List Shim → List Export → List ℕ → ℕ → List Thing
-things_given shims actual called table = map function_of actual ++ (map function_at called ++ table_things shims table)
+abbrev pub things_given : List Shim → List Export → Option ℕ → Option ℕ → ℕ → List Thing
+things_given shims actual first hooking table = map function_of actual ++ (map function_at (address_if first ++ address_if hooking) ++ table_things shims table)
 
-abbrev all_imports : List Shim → Option (List ℕ) → List Import
-all_imports shims initialize = imports_of [] shims ++ (call_imports (types_with [] shims) initialize ++ table_imports shims)
+abbrev all_imports : List Shim → Option (List ℕ) → Option (List ℕ) → List Import
+all_imports shims initialize hook = imports_of [] shims ++ (start_imports (types_with [] shims) initialize hook ++ table_imports shims)
 
-pub imports_given : (code : Store) (shims : List Shim) (initialize : Option (List ℕ)) (actual main : List Export) (address table : ℕ) (memory : Option ℕ) (cell : Option ValType) (called : List ℕ) → AreNumbered 0 shims → length shims < 2 ^ 32 → AllZip (IsActual code) shims actual → AreCalls code main initialize called →
-    all_some (map (argument_of (fixup_arguments shims initialize actual main address table memory cell)) (all_imports shims initialize)) ≡ Some (things_given shims actual called table)
-imports_given code [] None [] main address table memory cell called numbered room each calls = ap (λ l. Some (map function_at l ++ [])) (sym calls)
-imports_given code [] None (e ∷ es) main address table memory cell called numbered room each calls = absurd each
-imports_given code [] (Some name) (e ∷ es) main address table memory cell called numbered room each calls = absurd each
-imports_given code [] (Some name) [] main address table memory cell [] numbered room each calls = absurd calls
-imports_given code [] (Some name) [] main address table memory cell (a ∷ b ∷ as') numbered room each calls = absurd calls
-imports_given code [] (Some name) [] main address table memory cell (a ∷ []) numbered room each calls = ap (λ o. all_some (option_and_then (of_kind kinds.Func) o ∷ [])) calls.0
-imports_given code (s ∷ ss) None actual main address table memory cell called numbered room each calls =
-    let shims = s ∷ ss in
-    let found : export_named table_name (instance_exports shims address table memory cell) ≡ Some (record { space = spaces.CoreTable; name = table_name; address = table }) = table_found shims address table memory cell (λ e. cc) room in
-    functions_given code actual ((codes "shim", instance_exports shims address table memory cell) ∷ []) [] 0 shims actual [] numbered (omega arith) each tt refl
-    (table_imports shims) (table_things shims table)
-    (ap (λ o. all_some (option_and_then (of_kind kinds.Table) o ∷ [])) found)
-    ∙ ap (λ l. Some (map function_of actual ++ (map function_at l ++ table_things shims table))) (sym calls)
-imports_given code (s ∷ ss) (Some name) actual main address table memory cell [] numbered room each calls = absurd calls
-imports_given code (s ∷ ss) (Some name) actual main address table memory cell (a ∷ b ∷ as') numbered room each calls = absurd calls
-imports_given code (s ∷ ss) (Some name) actual main address table memory cell (a ∷ []) numbered room each calls =
-    let shims = s ∷ ss in
-    let found : export_named table_name (instance_exports shims address table memory cell) ≡ Some (record { space = spaces.CoreTable; name = table_name; address = table }) = table_found shims address table memory cell (λ e. cc) room in
-    functions_given code actual ((codes "main", main) ∷ (codes "shim", instance_exports shims address table memory cell) ∷ []) [] 0 shims actual [] numbered (omega arith) each tt refl
-    (call_imports (types_with [] shims) (Some name) ++ table_imports shims) (function_at a ∷ table_things shims table)
-    (ap (λ o. all_some (option_and_then (of_kind kinds.Func) o ∷ option_and_then (of_kind kinds.Table) (export_named table_name (instance_exports shims address table memory cell)) ∷ [])) calls.0
-    ∙ ap (λ o. all_some (Some (function_at a) ∷ option_and_then (of_kind kinds.Table) o ∷ [])) found)
+-- what the functions of main are given, where they are found among the arguments by `main`, with what follows
+module _ (code : Store) (main : List Export) (arguments : Arguments) (found : (kind : ExportKind) (name : List ℕ) → argument_for arguments kind (codes "main") name ≡ option_and_then (of_kind kind) (export_named name main)) where
+  hook_given : (types : List FuncType) (hook : Option (List ℕ)) (hooking : Option ℕ) → IsCallIf code main hook_signature hook hooking →
+      (more : List Import) (given : List Thing) → all_some (map (argument_of arguments) more) ≡ Some given →
+      all_some (map (argument_of arguments) (hook_imports types hook ++ more)) ≡ Some (map function_at (address_if hooking) ++ given)
+  hook_given types None None is more given rest = rest
+  hook_given types None (Some address) is more given rest = absurd is
+  hook_given types (Some name) None is more given rest = absurd is
+  hook_given types (Some name) (Some address) is more given rest =
+      let others : List (Option Thing) = map (argument_of arguments) more in
+      ap (λ o. all_some (o ∷ others)) (found kinds.Func name)
+      ∙ ap (λ o. all_some (option_and_then (of_kind kinds.Func) o ∷ others)) is.0
+      ∙ ap (λ o. option_map (λ xs. function_at address ∷ xs) o) rest
+
+  start_given : (types : List FuncType) (initialize hook : Option (List ℕ)) (first hooking : Option ℕ) → IsCallIf code main thunk initialize first → IsCallIf code main hook_signature hook hooking →
+      (more : List Import) (given : List Thing) → all_some (map (argument_of arguments) more) ≡ Some given →
+      all_some (map (argument_of arguments) (start_imports types initialize hook ++ more)) ≡ Some (map function_at (address_if first ++ address_if hooking) ++ given)
+  start_given types None hook None hooking is hook_is more given rest = hook_given types hook hooking hook_is more given rest
+  start_given types None hook (Some address) hooking is hook_is more given rest = absurd is
+  start_given types (Some name) hook None hooking is hook_is more given rest = absurd is
+  start_given types (Some name) hook (Some address) hooking is hook_is more given rest =
+      let behind : List Import = hook_imports (interned types thunk) hook ++ more in
+      let others : List (Option Thing) = map (argument_of arguments) behind in
+      ap (λ o. all_some (o ∷ others)) (found kinds.Func name)
+      ∙ ap (λ o. all_some (option_and_then (of_kind kinds.Func) o ∷ others)) is.0
+      ∙ ap (λ o. option_map (λ xs. function_at address ∷ xs) o) (hook_given (interned types thunk) hook hooking hook_is more given rest)
+
+-- main is among the arguments where one of its functions is called
+main_found : (shims : List Shim) (initialize hook : Option (List ℕ)) (actual main : List Export) (address table : ℕ) (memory : Option ℕ) (cell : Option ValType) → (main_if initialize hook ≡ [] → ⊥) → (kind : ExportKind) (name : List ℕ) →
+    argument_for (fixup_arguments shims initialize hook actual main address table memory cell) kind (codes "main") name ≡ option_and_then (of_kind kind) (export_named name main)
+main_found [] None None actual main address table memory cell any kind name = absurd (any refl)
+main_found [] None (Some hook) actual main address table memory cell any kind name = refl
+main_found [] (Some other) None actual main address table memory cell any kind name = refl
+main_found [] (Some other) (Some hook) actual main address table memory cell any kind name = refl
+main_found (s ∷ ss) None None actual main address table memory cell any kind name = absurd (any refl)
+main_found (s ∷ ss) None (Some hook) actual main address table memory cell any kind name = refl
+main_found (s ∷ ss) (Some other) None actual main address table memory cell any kind name = refl
+main_found (s ∷ ss) (Some other) (Some hook) actual main address table memory cell any kind name = refl
+
+-- what functions of main and the table are given
+calls_given : (code : Store) (shims : List Shim) (initialize hook : Option (List ℕ)) (actual main : List Export) (address table : ℕ) (memory : Option ℕ) (cell : Option ValType) (first hooking : Option ℕ) → IsCallIf code main thunk initialize first → IsCallIf code main hook_signature hook hooking →
+    (types : List FuncType) (more : List Import) (given : List Thing) → all_some (map (argument_of (fixup_arguments shims initialize hook actual main address table memory cell)) more) ≡ Some given →
+    all_some (map (argument_of (fixup_arguments shims initialize hook actual main address table memory cell)) (start_imports types initialize hook ++ more)) ≡ Some (map function_at (address_if first ++ address_if hooking) ++ given)
+calls_given code shims None None actual main address table memory cell None None is hook_is types more given rest = rest
+calls_given code shims None None actual main address table memory cell (Some a) hooking is hook_is types more given rest = absurd is
+calls_given code shims None None actual main address table memory cell None (Some a) is hook_is types more given rest = absurd hook_is
+calls_given code shims None (Some hook) actual main address table memory cell first hooking is hook_is types more given rest =
+    start_given code main (fixup_arguments shims None (Some hook) actual main address table memory cell) (main_found shims None (Some hook) actual main address table memory cell (λ e. cc)) types None (Some hook) first hooking is hook_is more given rest
+calls_given code shims (Some name) hook actual main address table memory cell first hooking is hook_is types more given rest =
+    start_given code main (fixup_arguments shims (Some name) hook actual main address table memory cell) (main_found shims (Some name) hook actual main address table memory cell (λ e. cc)) types (Some name) hook first hooking is hook_is more given rest
+
+-- the table is found behind `actual` and `main`
+table_given : (s : Shim) (ss : List Shim) (initialize hook : Option (List ℕ)) (actual main : List Export) (address table : ℕ) (memory : Option ℕ) (cell : Option ValType) → length (s ∷ ss) < 2 ^ 32 →
+    all_some (map (argument_of (fixup_arguments (s ∷ ss) initialize hook actual main address table memory cell)) (table_imports (s ∷ ss))) ≡ Some (table_things (s ∷ ss) table)
+table_given s ss initialize hook actual main address table memory cell room = by initialize hook
+  where
+    found : export_named table_name (instance_exports (s ∷ ss) address table memory cell) ≡ Some (record { space = spaces.CoreTable; name = table_name; address = table })
+    found = table_found (s ∷ ss) address table memory cell (λ e. cc) room
+
+    by : (initialize hook : Option (List ℕ)) → all_some (map (argument_of (fixup_arguments (s ∷ ss) initialize hook actual main address table memory cell)) (table_imports (s ∷ ss))) ≡ Some (table_things (s ∷ ss) table)
+    by None None = ap (λ o. all_some (option_and_then (of_kind kinds.Table) o ∷ [])) found
+    by None (Some hook) = ap (λ o. all_some (option_and_then (of_kind kinds.Table) o ∷ [])) found
+    by (Some name) None = ap (λ o. all_some (option_and_then (of_kind kinds.Table) o ∷ [])) found
+    by (Some name) (Some hook) = ap (λ o. all_some (option_and_then (of_kind kinds.Table) o ∷ [])) found
+
+pub imports_given : (code : Store) (shims : List Shim) (initialize hook : Option (List ℕ)) (actual main : List Export) (address table : ℕ) (memory : Option ℕ) (cell : Option ValType) (first hooking : Option ℕ) → CanFix shims initialize hook actual main table first hooking code →
+    all_some (map (argument_of (fixup_arguments shims initialize hook actual main address table memory cell)) (all_imports shims initialize hook)) ≡ Some (things_given shims actual first hooking table)
+imports_given code [] initialize hook (e ∷ es) main address table memory cell first hooking h = absurd h.each
+imports_given code [] initialize hook [] main address table memory cell first hooking h =
+    calls_given code [] initialize hook [] main address table memory cell first hooking h.first_is h.hook_is [] [] [] refl
+imports_given code (s ∷ ss) initialize hook actual main address table memory cell first hooking h =
+    let shims : List Shim = s ∷ ss in
+    functions_given code actual (map (λ i. (i.0, exports_given actual main (instance_exports shims address table memory cell) i.1)) (main_if initialize hook ++ shim_if shims)) [] 0 shims actual [] h.numbered (let room = h.room in omega (arith, room)) h.each tt refl
+    (start_imports (types_with [] shims) initialize hook ++ table_imports shims) (map function_at (address_if first ++ address_if hooking) ++ table_things shims table)
+    (calls_given code shims initialize hook actual main address table memory cell first hooking h.first_is h.hook_is (types_with [] shims) (table_imports shims) (table_things shims table)
+    (table_given s ss initialize hook actual main address table memory cell h.room))
 
 -- as external values
 abbrev pub table_values : List Shim → ℕ → List Given
 table_values [] table = []
 table_values (s ∷ ss) table = TableAt table ∷ []
 
-abbrev pub values_given : List Shim → List Export → List ℕ → ℕ → List Given
-values_given shims actual called table = map (λ (e : Export). FunctionAt e.address) actual ++ (map (λ a. FunctionAt a) called ++ table_values shims table)
+-- functions by their addresses
+abbrev pub at_addresses : List ℕ → List Given
+at_addresses addresses = map (λ a. FunctionAt a) addresses
 
-pub values_are : (shims : List Shim) (actual : List Export) (called : List ℕ) (table : ℕ) → all_some (map external (things_given shims actual called table)) ≡ Some (values_given shims actual called table)
-values_are [] [] [] table = refl
-values_are (s ∷ ss) [] [] table = refl
-values_are shims [] (a ∷ as') table = ap (λ o. option_map (λ xs. FunctionAt a ∷ xs) o) (values_are shims [] as' table)
-values_are shims (e ∷ es) called table = ap (λ o. option_map (λ xs. FunctionAt e.address ∷ xs) o) (values_are shims es called table)
+abbrev pub values_with : List Shim → List Export → List ℕ → ℕ → List Given
+values_with shims actual called table = map (λ (e : Export). FunctionAt e.address) actual ++ (at_addresses called ++ table_values shims table)
+
+abbrev pub values_given : List Shim → List Export → Option ℕ → Option ℕ → ℕ → List Given
+values_given shims actual first hooking table = values_with shims actual (address_if first ++ address_if hooking) table
+
+values_of : (shims : List Shim) (actual : List Export) (called : List ℕ) (table : ℕ) →
+    all_some (map external (map function_of actual ++ (map function_at called ++ table_things shims table))) ≡ Some (values_with shims actual called table)
+values_of [] [] [] table = refl
+values_of (s ∷ ss) [] [] table = refl
+values_of shims [] (a ∷ as') table = ap (λ o. option_map (λ xs. FunctionAt a ∷ xs) o) (values_of shims [] as' table)
+values_of shims (e ∷ es) called table = ap (λ o. option_map (λ xs. FunctionAt e.address ∷ xs) o) (values_of shims es called table)
+
+pub values_are : (shims : List Shim) (actual : List Export) (first hooking : Option ℕ) (table : ℕ) → all_some (map external (things_given shims actual first hooking table)) ≡ Some (values_given shims actual first hooking table)
+values_are shims actual first hooking table = values_of shims actual (address_if first ++ address_if hooking) table

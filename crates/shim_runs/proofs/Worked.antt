@@ -20,6 +20,7 @@ use Rattle.shim_plan.specs.Plans.{numbered}
 use Rattle.shim_plan.specs.declared.kinds.ShimKind.TheVariants as kinds
 use Rattle.shim_plan.specs.declared.needs.NeededShim.{NeededShim}
 use Rattle.shim_plan.specs.declared.shims.Shim.{Shim}
+use Rattle.core_runs.specs.Expected.{hook_signature}
 use Rattle.fixup_modules.specs.Fixups.{thunk}
 use Rattle.world_shims.specs.WorldShims.{sections_of_shims, sections_of_fixup}
 use Rattle.shim_runs.specs.ShimRuns.{fixup_arguments}
@@ -71,7 +72,7 @@ with_shims memory functions debug_names next = instantiate_generated (sections_o
 
 -- the fixup after the shims, whose functions are at 2 and 3, with this for `actual`; a memory is at 0
 abbrev with_memory_and_fixup : Option MemoryType → Option ℕ → List Export → Bool → Outcome
-with_memory_and_fixup memory at actual debug_names = with_shims memory opaque debug_names (λ m. instantiate_generated (sections_of_fixup shims None debug_names) 2 (fixup_arguments shims None actual [] 2 0 at None) m (λ after. Done after))
+with_memory_and_fixup memory at actual debug_names = with_shims memory opaque debug_names (λ m. instantiate_generated (sections_of_fixup shims None None debug_names) 2 (fixup_arguments shims None None actual [] 2 0 at None) m (λ after. Done after))
 
 abbrev with_fixup : List Export → Bool → Outcome
 with_fixup actual debug_names = with_memory_and_fixup None None actual debug_names
@@ -287,24 +288,34 @@ is_read = refl
 
 -- ---- main is initialized
 
--- a thunk of main, which is another opaque function, and the fixup that calls it
+-- a thunk and a task hook of main, which are two other opaque functions, and the fixup that calls them
 abbrev with_thunk : List Func
-with_thunk = opaque ++ Opaque 2 thunk ∷ []
+with_thunk = opaque ++ (Opaque 2 thunk ∷ Opaque 3 hook_signature ∷ [])
 
 abbrev main_exports : List Export
-main_exports = function_export (codes "start") 2 ∷ []
+main_exports = function_export (codes "start") 2 ∷ function_export (codes "hook") 3 ∷ []
 
-abbrev run_initialized : List Shim → List Answer → Outcome
-run_initialized those answers =
+abbrev run_initialized : List Shim → Option (List ℕ) → List Answer → Outcome
+run_initialized those hook answers =
     let m : Machine = machine_with with_thunk in
-    instantiate_generated (sections_of_fixup those (Some (codes "start")) false) 2 (fixup_arguments those (Some (codes "start")) [] main_exports 3 0 None None) (record m { now = now_with answers [] }) (λ after. Done after)
+    instantiate_generated (sections_of_fixup those (Some (codes "start")) hook false) 2 (fixup_arguments those (Some (codes "start")) hook [] main_exports 3 0 None None) (record m { now = now_with answers [] }) (λ after. Done after)
 
 -- it is called once, and nothing else is seen
-called_alone : option_map (λ (e : Ended). e.events) (ended (run_initialized [] (Gives [] 0 ∷ []))) ≡ Some (Called 2 [] ∷ [])
+called_alone : option_map (λ (e : Ended). e.events) (ended (run_initialized [] None (Gives [] 0 ∷ []))) ≡ Some (Called 2 [] ∷ [])
 unfolding digits acts exec
 called_alone = refl
 
 -- a run with no answer is open, and one in which it traps ends there
-no_answer_left : ended (run_initialized [] []) ≡ None
+no_answer_left : ended (run_initialized [] None []) ≡ None
 unfolding digits acts exec
 no_answer_left = refl
+
+-- the hook is called before and after, with its numbers
+called_between : option_map (λ (e : Ended). e.events) (ended (run_initialized [] (Some (codes "hook")) (Gives [] 0 ∷ Gives [] 0 ∷ Gives [] 0 ∷ []))) ≡ Some (Called 3 (I32Value 6 ∷ []) ∷ Called 2 [] ∷ Called 3 (I32Value 7 ∷ []) ∷ [])
+unfolding digits acts exec
+called_between = refl
+
+-- with two answers the run is open
+hook_not_answered : ended (run_initialized [] (Some (codes "hook")) (Gives [] 0 ∷ Gives [] 0 ∷ [])) ≡ None
+unfolding digits acts exec
+hook_not_answered = refl

@@ -9,26 +9,29 @@ use Rattle.core_types.specs.declared.types.MemoryType.{MemoryType}
 use Rattle.core_types.specs.declared.types.ValType.{ValType}
 use Rattle.core_types.specs.declared.types.ValType.TheVariants.{I32, I64}
 use Rattle.core_runs.specs.declared.bracket.AfterHook.TheVariants.{Nothing}
-use Rattle.core_runs.specs.Hooks.{around}
-use Rattle.core_runs.specs.Values.{Value, fit, zero_of}
+use Rattle.core_runs.specs.declared.bracket.TaskHook.{TaskHook}
+use Rattle.core_runs.specs.declared.bracket.TaskHook.TheVariants.{InitializeStart, InitializeFinish}
+use Rattle.core_runs.specs.Hooks.{around, hook_number}
+use Rattle.core_runs.specs.Values.{Value, I32Value, fit, zero_of}
 use Rattle.core_runs.specs.Store.{Frame, Func, Opaque, signature_of, Store, Kept, Now, ByCode, Trapped}
 use Rattle.core_runs.specs.Bodies.{table_shim}
 use Rattle.core_runs.specs.Cells.{IsGetter, IsSetter}
 use Rattle.core_runs.specs.Shims.{HasBody}
 use Rattle.core_runs.specs.Execution.{acts}
-use Rattle.core_runs.specs.Expected.{expected, Is as IsOpaqueAt}
-use Rattle.core_runs.specs.Starts.{deeds_done}
+use Rattle.core_runs.specs.Expected.{hook_signature, expected, Is as IsOpaqueAt}
+use Rattle.core_runs.specs.Starts.{Deed, Calls, deeds_done}
 use Rattle.core_runs.specs.Instances.{empty_table}
 use Rattle.fixup_modules.specs.declared.instances.ImportedInstance.{ImportedInstance}
 use Rattle.fixup_modules.specs.declared.instances.ImportedInstance.TheVariants as instances
-use Rattle.fixup_modules.specs.Laws.{thunk_at, call_of}
+use Rattle.fixup_modules.specs.Fixups.{thunk}
+use Rattle.fixup_modules.specs.Laws.{thunk_at, hook_at}
 use Rattle.comp_runs.specs.Store.{Thing, Export, Store as RunStore}
 use Rattle.comp_runs.specs.Machine.{Scope, Machine, Next, export_named, export_of, resumed}
 use Rattle.comp_runs.specs.Instances.{Arguments, with_module_instance, instantiate_generated}
 use Rattle.shim_modules.specs.Shims.{getter_name, setter_name}
 use Rattle.shim_plan.specs.Plans.{AreNumbered}
 use Rattle.shim_plan.specs.declared.shims.Shim.{Shim}
-use Rattle.world_shims.specs.WorldShims.{type_of_shim, sections_of_shims, sections_of_fixup, fixup_instances}
+use Rattle.world_shims.specs.WorldShims.{type_of_shim, sections_of_shims, sections_of_fixup, fixup_instances, AreUnlike}
 
 -- ---- shims in a store
 
@@ -164,16 +167,35 @@ abbrev pub with_slots : List Shim → ℕ → List Export → Store → Store
 with_slots [] table actual code = code
 with_slots (s ∷ ss) table actual code = record code { tables = slice_set code.tables table (map (λ (e : Export). Some e.address) actual) }
 
--- the function with which main is initialized, where it has one, is a function of a user module
--- without parameters and results, at this address
-abbrev pub IsCall : Store → List Export → List ℕ → ℕ → Type 0
-IsCall code main name address = (export_named name main ≡ Some (record { space = spaces.CoreFunc; name = name; address = address })) × (what : ℕ) × IsOpaqueAt code (thunk_at address) what
+-- the code with these functions behind the others
+abbrev pub with_functions : List Func → Store → Store
+with_functions own code = record code { functions = code.functions ++ own }
 
-abbrev pub AreCalls : Store → List Export → Option (List ℕ) → List ℕ → Type 0
-AreCalls code main None called = called ≡ []
-AreCalls code main (Some name) [] = ⊥
-AreCalls code main (Some name) (address ∷ []) = IsCall code main name address
-AreCalls code main (Some name) (a ∷ b ∷ more) = ⊥
+-- a function that main exports under a name is one of a user module of this type, at this address
+abbrev pub IsCall : Store → List Export → FuncType → List ℕ → ℕ → Type 0
+IsCall code main type name address = (export_named name main ≡ Some (record { space = spaces.CoreFunc; name = name; address = address })) × (what : ℕ) × IsOpaqueAt code (record { address = address; signature = type }) what
+
+-- the same, where there is such a function
+abbrev pub IsCallIf : Store → List Export → FuncType → Option (List ℕ) → Option ℕ → Type 0
+IsCallIf code main type None None = Unit {0}
+IsCallIf code main type None (Some address) = ⊥
+IsCallIf code main type (Some name) None = ⊥
+IsCallIf code main type (Some name) (Some address) = IsCall code main type name address
+
+-- their addresses, in the order in which they are imported
+abbrev pub address_if : Option ℕ → List ℕ
+address_if None = []
+address_if (Some address) = address ∷ []
+
+-- what is done at the start: main is initialized by the function at the first address, where there is one, and the task
+-- hook at the second is called before and after
+abbrev pub hook_deed : ℕ → TaskHook → Deed
+hook_deed hook moment = Calls (hook_at hook) (I32Value (hook_number moment) ∷ [])
+
+abbrev pub start_deeds : Option ℕ → Option ℕ → List Deed
+start_deeds None hook = []
+start_deeds (Some first) None = Calls (thunk_at first) [] ∷ []
+start_deeds (Some first) (Some hook) = hook_deed hook InitializeStart ∷ Calls (thunk_at first) [] ∷ hook_deed hook InitializeFinish ∷ []
 
 -- what each of them exports
 abbrev pub exports_given : List Export → List Export → List Export → ImportedInstance → List Export
@@ -182,25 +204,29 @@ exports_given actual main shims instances.Main = main
 exports_given actual main shims instances.Shim = shims
 exports_given actual main shims (instances.Adapter name) = []
 
-abbrev pub fixup_arguments : List Shim → Option (List ℕ) → List Export → List Export → ℕ → ℕ → Option ℕ → Option ValType → Arguments
-fixup_arguments shims initialize actual main address table memory cell =
-    map (λ i. (i.0, exports_given actual main (instance_exports shims address table memory cell) i.1)) (fixup_instances shims initialize)
+abbrev pub fixup_arguments : List Shim → Option (List ℕ) → Option (List ℕ) → List Export → List Export → ℕ → ℕ → Option ℕ → Option ValType → Arguments
+fixup_arguments shims initialize hook actual main address table memory cell =
+    map (λ i. (i.0, exports_given actual main (instance_exports shims address table memory cell) i.1)) (fixup_instances shims initialize hook)
 
 -- what is there when it is made: shims, a table with a slot for each of them, what each is to
 -- forward to, and what is called
-pub record CanFix (shims : List Shim) (initialize : Option (List ℕ)) (actual main : List Export) (table : ℕ) (called : List ℕ) (code : Store) : Type 0 where
+pub record CanFix (shims : List Shim) (initialize hook : Option (List ℕ)) (actual main : List Export) (table : ℕ) (first hooking : Option ℕ) (code : Store) : Type 0 where
   pub numbered : AreNumbered 0 shims
   pub room : length shims < 2 ^ 32
   pub each : AllZip (IsActual code) shims actual
   pub slotted : (shims ≡ [] → ⊥) → HasSlots code table shims
-  pub calls : AreCalls code main initialize called
+  pub unlike : AreUnlike initialize hook
+  pub first_is : IsCallIf code main thunk initialize first
+  pub hook_is : IsCallIf code main hook_signature hook hooking
 
--- The instance is made: each slot holds what is given for the shim of its place, and there is no
--- new function. Then main is initialized, where it has to be, and nothing else is seen.
-pub record FixupRun (shims : List Shim) (initialize : Option (List ℕ)) (debug_names : Bool) (actual main : List Export) (address table : ℕ) (memory : Option ℕ) (cell : Option ValType) (called : List ℕ) (number : ℕ) (c : Scope) (s : RunStore) : Type 0 where
+-- The instance is made: each slot holds what is given for the shim of its place, and the module's own
+-- function is there, where it has one. Then main is initialized, where it has to be, with the hook
+-- before and after that, and nothing else is seen.
+pub record FixupRun (shims : List Shim) (initialize hook : Option (List ℕ)) (debug_names : Bool) (actual main : List Export) (address table : ℕ) (memory : Option ℕ) (cell : Option ValType) (first hooking : Option ℕ) (number : ℕ) (c : Scope) (s : RunStore) : Type 0 where
   pub given : List Thing
-  pub runs : (now : Now) (next : Next) → instantiate_generated (sections_of_fixup shims initialize debug_names) number (fixup_arguments shims initialize actual main address table memory cell) (machine c s now) next
-      ≡ resumed (deeds_done (map call_of called) now) (machine c (with_code s (with_slots shims table actual s.code)) now)
+  pub own : List Func
+  pub runs : (now : Now) (next : Next) → instantiate_generated (sections_of_fixup shims initialize hook debug_names) number (fixup_arguments shims initialize hook actual main address table memory cell) (machine c s now) next
+      ≡ resumed (deeds_done (start_deeds first hooking) now) (machine c (with_code s (with_functions own (with_slots shims table actual s.code))) now)
       (λ values after. next (with_module_instance (record { module_number = number; given = given; exports = [] }) after))
 
 -- ---- the exports of the instance of the shims

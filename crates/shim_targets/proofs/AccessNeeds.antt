@@ -23,7 +23,7 @@ use Rattle.core_types.specs.declared.types.MemoryType.{MemoryType}
 use Rattle.shim_plan.specs.Needed.{Accessed, access_to, access_options, access_shim, access_shims, access_needs, accesses_through, import_needs, payload_realloc, realloc_needs_of}
 use Rattle.shim_plan.specs.declared.needs.NeededShim.{NeededShim}
 use Rattle.shim_plan.specs.declared.reallocs.ReallocSite.TheVariants as sites
-use Rattle.shim_targets.proofs.CallNeeds.{Stands, no_realloc_of}
+use Rattle.shim_targets.proofs.CallNeeds.{Stands, reallocs_of}
 use Rattle.shim_targets.proofs.Lists.{contains_first}
 use Rattle.shim_targets.proofs.Users.{back}
 use Rattle.shim_targets.specs.ShimTargets.{which_of}
@@ -144,7 +144,7 @@ module _ (w : ComponentWorld) (ok : IsEncodable w) (of : UserModule) (m : Valida
   access_stands ends.FutureRead there through = future_read_stands there through
   access_stands ends.FutureWrite there through = future_write_stands there through
 
-  -- and all that is needed does, since main has no task hook
+  -- and all that is needed does
   pub access_needs_stand : (kind : PayloadFuncKind) → Contains (user_imports w) (import_as (access_role p kind is_async)) → AllByRecursion (Stands w) (access_needs w (which_of of) m (core_as (access_role p kind is_async)) (access_to p kind is_async))
   access_needs_stand kind there = by (is_through kind) refl
     where
@@ -153,4 +153,4 @@ module _ (w : ComponentWorld) (ok : IsEncodable w) (of : UserModule) (m : Valida
 
       by : (b : Bool) → is_through kind ≡ b → AllByRecursion (Stands w) (if b then access_shims w (which_of of) m (core_as (access_role p kind is_async)) a else [])
       by false apart = tt
-      by true through = (access_stands kind there through, subst (AllByRecursion (Stands w)) (sym (no_realloc_of w ok (access_options w a) (payload_realloc w (which_of of) m p.imported))) tt)
+      by true through = (access_stands kind there through, reallocs_of w ok of m found p.imported sites.AfterInstantiation (access_options w a))

@@ -2,7 +2,6 @@
 -- and it has an encoding, a shim that stands for its import; where main imports its memory, a shim
 -- for the realloc of the call; and nothing else.
 use Rattle.std.proofs.Common.{◌≡◌, ◌∙◌, ℕ, Bool, true, false, ◌&&◌, List, [], Contains, if◌then◌else◌, Option, Some, None, is_some, inl, inr, refl, sym, ap, subst}
-use Rattle.std.proofs.Math.Bool.{and-false}
 use Rattle.std.proofs.lemmas.Option.{same_Some}
 use Rattle.std.specs.List.{AllByRecursion}
 use Rattle.std.specs.Option.{option_and_then}
@@ -26,11 +25,12 @@ use Rattle.comp_worlds.specs.declared.lowerings.Lowering.TheVariants as lowering
 use Rattle.comp_worlds.specs.declared.lowerings.LoweringKey.{LoweringKey}
 use Rattle.comp_worlds.specs.declared.world.ComponentWorld.{ComponentWorld}
 use Rattle.comp_worlds.specs.declared.world.ValidatedModule.{ValidatedModule}
-use Rattle.shim_plan.specs.Needed.{realloc_shim, realloc_shims, import_realloc, realloc_needs, realloc_needs_of, indirect_name, indirect_shim, indirect_needs, lowering_needs, lowering_of_call}
+use Rattle.shim_plan.specs.Needed.{realloc_shim, realloc_shims, import_realloc, payload_realloc, realloc_needs, realloc_needs_of, realloc_needs_shim, indirect_name, indirect_shim, indirect_needs, lowering_needs, lowering_of_call}
 use Rattle.shim_plan.specs.Plans.{shim_at}
 use Rattle.shim_plan.specs.declared.kinds.ShimKind.{ShimKind}
 use Rattle.shim_plan.specs.declared.kinds.ShimKind.TheVariants as kinds
 use Rattle.shim_plan.specs.declared.needs.NeededShim.{NeededShim}
+use Rattle.shim_plan.specs.declared.reallocs.ReallocSite.{ReallocSite}
 use Rattle.shim_plan.specs.declared.reallocs.ReallocSite.TheVariants as sites
 use Rattle.comp_links.specs.Links.{lower_needs, export_at}
 use Rattle.comp_links.specs.Modules.{module_found, user_imports}
@@ -41,7 +41,7 @@ use Rattle.shim_targets.specs.ShimTargets.{which_of, kind_of_import, StandsForOn
 use Rattle.shim_targets.proofs.Calls.{IsLowered, role_back}
 use Rattle.shim_targets.proofs.Lists.{contains_first}
 use Rattle.shim_targets.proofs.ReallocShims.{Pair, realloc_exported, realloc_stands}
-use Rattle.shim_targets.proofs.Roles.{import_role, no_hook}
+use Rattle.shim_targets.proofs.Roles.{import_role}
 use Rattle.comp_worlds.specs.Offered.{shared_memory}
 
 -- a shim that is needed stands for an import or an export, at whatever place
@@ -50,16 +50,20 @@ Stands w n = (place : ℕ) → StandsForOne w (shim_at place n)
 
 -- ---- reallocs
 
--- none after instantiation, as main has no task hook
-pub no_realloc_of : (w : ComponentWorld) → IsEncodable w → (options : RequiredOptions) (realloc : Option Pair) → realloc_needs_of w sites.AfterInstantiation options realloc ≡ []
-no_realloc_of w ok options realloc =
-    ap (λ b. if needs options.0 2 && b then realloc_shims realloc else []) (no_hook w ok)
-    ∙ ap (λ b. if b then realloc_shims realloc else []) (and-false (needs options.0 2))
+-- the shim of a realloc of one side stands for that, at either site
+pub reallocs_of : (w : ComponentWorld) (ok : IsEncodable w) (of : UserModule) (m : ValidatedModule) → module_found w of ≡ Some m → (imported : Bool) (site : ReallocSite) (options : RequiredOptions) → AllByRecursion (Stands w) (realloc_needs_of w site options (payload_realloc w (which_of of) m imported))
+reallocs_of w ok of m found imported site options = by (needs options.0 2 && realloc_needs_shim w site) (payload_realloc w (which_of of) m imported) refl
+  where
+    by : (b : Bool) (o : Option Pair) → payload_realloc w (which_of of) m imported ≡ o → AllByRecursion (Stands w) (if b then realloc_shims o else [])
+    by false o e = tt
+    by true None e = tt
+    by true (Some r) e = (λ place. inr (export_at r, realloc_stands w r (realloc_exported w ok imported of m found r e) place), tt)
 
-pub no_realloc_after : (w : ComponentWorld) → IsEncodable w → (which : MainOrAdapter) (m : ValidatedModule) (options : RequiredOptions) → realloc_needs w which m sites.AfterInstantiation options ≡ []
-no_realloc_after w ok which m options = no_realloc_of w ok options (import_realloc w which m)
+-- so does that of the realloc of a module's imports
+pub reallocs_at : (w : ComponentWorld) (ok : IsEncodable w) (of : UserModule) (m : ValidatedModule) → module_found w of ≡ Some m → (site : ReallocSite) (options : RequiredOptions) → AllByRecursion (Stands w) (realloc_needs w (which_of of) m site options)
+reallocs_at w ok of m found site options = reallocs_of w ok of m found true site options
 
--- and none before, where the options name none
+-- there is none before, where the options name none
 no_realloc_before : (w : ComponentWorld) (which : MainOrAdapter) (m : ValidatedModule) (options : RequiredOptions) → needs options.0 2 ≡ false → realloc_needs w which m sites.BeforeInstantiation options ≡ []
 no_realloc_before w which m options e = ap (λ (b : Bool). if b && true then realloc_shims (import_realloc w which m) else []) e
 
@@ -150,16 +154,7 @@ module _ (w : ComponentWorld) (of : UserModule) (m : ValidatedModule) (i : CoreI
 
     with_memory : shared_memory w ≡ None → needs options.0 1 ≡ true → (o : Option StringEncoding) → of_function key name m.metadata.import_encodings ≡ o → AllByRecursion (Stands w) (needs_with o)
     with_memory unshared memory None encoded = tt
-    with_memory unshared memory (Some encoding) encoded = (shim_stands unshared memory encoding encoded, subst (AllByRecursion (Stands w)) (sym (no_realloc_after w ok (which_of of) m options)) tt)
-
-    -- the shim of a realloc stands for that
-    reallocs_stand : AllByRecursion (Stands w) (realloc_needs w (which_of of) m sites.BeforeInstantiation options)
-    reallocs_stand = by (needs options.0 2) (import_realloc w (which_of of) m) refl
-      where
-        by : (b : Bool) (o : Option Pair) → import_realloc w (which_of of) m ≡ o → AllByRecursion (Stands w) (if b && true then realloc_shims o else [])
-        by false o e = tt
-        by true None e = tt
-        by true (Some r) e = (λ place. inr (export_at r, realloc_stands w r (realloc_exported w ok of m found r e) place), tt)
+    with_memory unshared memory (Some encoding) encoded = (shim_stands unshared memory encoding encoded, reallocs_at w ok of m found sites.AfterInstantiation options)
 
     -- all that is needed of a call stands for its import, or for its realloc
     pub call_needs_stand : AllByRecursion (Stands w) needs_of
@@ -171,4 +166,4 @@ module _ (w : ComponentWorld) (of : UserModule) (m : ValidatedModule) (i : CoreI
 
         shared_by : (o : Option MemoryType) → shared_memory w ≡ o → AllByRecursion (Stands w) (needs_as (Some (lowered_by (is_some o) (needs options.0 1))))
         shared_by None e = by e (needs options.0 1) refl
-        shared_by (Some type) e = reallocs_stand
+        shared_by (Some type) e = reallocs_at w ok of m found sites.BeforeInstantiation options

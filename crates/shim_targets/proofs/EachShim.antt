@@ -96,10 +96,10 @@ module _ (w : ComponentWorld) (ok : IsEncodable w) (of : UserModule) (m : Valida
       subst (AllByRecursion (Stands w)) (sym (adapter_needed (record { module_name = name; field = field; role = imports.AdapterExport adapter function type }) adapter function type h.numbers))
       (λ place. inr (record { of = Adapter adapter; name = function }, adapter_stands w adapter function type h (record { module_name = name; field = field; role = imports.AdapterExport adapter function type }) place), tt)
   import_stands name field (imports.ExportedTaskReturn key interface f) there h = return_needs_stand w ok of m found (record { module_name = name; field = field; role = imports.ExportedTaskReturn key interface f }) key interface f refl there h
-  import_stands name field imports.WaitableSetWait there h = unless_shared w ok of m functions.Wait (wait_stands w of m found name field there)
-  import_stands name field imports.WaitableSetPoll there h = unless_shared w ok of m functions.Poll (poll_stands w of m found name field there)
-  import_stands name field (imports.ErrorContextNew encoding) there h = unless_shared w ok of m (functions.NewError encoding) (new_error_stands w of m found name field encoding there)
-  import_stands name field (imports.ErrorContextDebugMessage encoding) there h = all_through w ok of m (functions.ErrorMessage encoding) (message_stands w of m found name field encoding there)
+  import_stands name field imports.WaitableSetWait there h = unless_shared w ok of m found functions.Wait (wait_stands w of m found name field there)
+  import_stands name field imports.WaitableSetPoll there h = unless_shared w ok of m found functions.Poll (poll_stands w of m found name field there)
+  import_stands name field (imports.ErrorContextNew encoding) there h = unless_shared w ok of m found (functions.NewError encoding) (new_error_stands w of m found name field encoding there)
+  import_stands name field (imports.ErrorContextDebugMessage encoding) there h = all_through w ok of m found (functions.ErrorMessage encoding) (message_stands w of m found name field encoding there)
   import_stands name field (imports.StreamRead p is_async) there h = access_needs_stand w ok of m found name field p is_async h ends.StreamRead there
   import_stands name field (imports.StreamWrite p is_async) there h = access_needs_stand w ok of m found name field p is_async h ends.StreamWrite there
   import_stands name field (imports.FutureRead p is_async) there h = access_needs_stand w ok of m found name field p is_async h ends.FutureRead there

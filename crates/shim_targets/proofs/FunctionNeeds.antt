@@ -1,5 +1,5 @@
 -- What is needed of waits and of functions of error contexts: shims, which stand for their imports.
-use Rattle.std.proofs.Common.{◌≡◌, ℕ, true≢false, List, [], Option, Some, None, Contains, if◌then◌else◌, is_some, inl, not, refl, sym, ap, subst}
+use Rattle.std.proofs.Common.{◌≡◌, ℕ, true≢false, List, [], Option, Some, None, Contains, if◌then◌else◌, is_some, inl, not, refl, ap}
 use Rattle.std.specs.List.{AllByRecursion}
 use Rattle.std.specs.Option.{option_and_then}
 use Rattle.comp_links.specs.Modules.{UserImport, module_found, user_imports}
@@ -14,17 +14,18 @@ use Rattle.comp_worlds.specs.declared.world.ValidatedModule.{ValidatedModule}
 use Rattle.core_types.specs.declared.types.MemoryType.{MemoryType}
 use Rattle.shim_plan.specs.Needed.{function_options, function_shim, through_needs}
 use Rattle.shim_plan.specs.declared.memory_functions.MemoryFunction.{MemoryFunction}
+use Rattle.shim_plan.specs.declared.reallocs.ReallocSite.TheVariants as sites
 use Rattle.shim_plan.specs.declared.memory_functions.MemoryFunction.TheVariants as functions
-use Rattle.shim_targets.proofs.CallNeeds.{Stands, no_realloc_after}
+use Rattle.shim_targets.proofs.CallNeeds.{Stands, reallocs_at}
 use Rattle.shim_targets.proofs.Users.{back}
 use Rattle.shim_targets.specs.ShimTargets.{which_of}
 use Rattle.standard_kinds.specs.declared.kinds.StringEncoding.{StringEncoding}
 use Rattle.standard_kinds.specs.declared.kinds.StringEncoding.TheVariants.{UTF8}
 
--- where its shim stands for an import, all that is needed does, since main has no task hook
-module _ (w : ComponentWorld) (ok : IsEncodable w) (of : UserModule) (m : ValidatedModule) (function : MemoryFunction) where
+-- where its shim stands for an import, all that is needed does
+module _ (w : ComponentWorld) (ok : IsEncodable w) (of : UserModule) (m : ValidatedModule) (found : module_found w of ≡ Some m) (function : MemoryFunction) where
   pub all_through : Stands w (function_shim (which_of of) function) → AllByRecursion (Stands w) (through_needs w (which_of of) m function)
-  all_through own = (own, subst (AllByRecursion (Stands w)) (sym (no_realloc_after w ok (which_of of) m (function_options function))) tt)
+  all_through own = (own, reallocs_at w ok of m found sites.AfterInstantiation (function_options function))
 
   pub unless_shared : (shared_memory w ≡ None → Stands w (function_shim (which_of of) function)) → AllByRecursion (Stands w) (if not (is_some (shared_memory w)) then through_needs w (which_of of) m function else [])
   unless_shared own = by (shared_memory w) refl

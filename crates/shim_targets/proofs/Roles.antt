@@ -1,17 +1,14 @@
--- What the roles of a world exclude: main exports no task hook. What they say of the imports of all modules.
-use Rattle.std.proofs.Common.{◌≡◌, ℕ, false, List, [], ◌∷◌, map, Contains, None, is_some, refl, ap}
+-- What the roles of a world say of the imports of all modules.
+use Rattle.std.proofs.Common.{ℕ, List, [], ◌∷◌, map, Contains}
 use Rattle.std.specs.List.{AllByRecursion, flat_map}
 use Rattle.comp_lists.proofs.Lists.{AllByRecursion-contains}
 use Rattle.comp_roles.specs.CoreImports.{CoreImport, imports_from}
-use Rattle.comp_roles.specs.Lookups.{first_export, is_task_hook}
-use Rattle.comp_roles.specs.declared.exports.Export.{Export}
-use Rattle.comp_roles.specs.declared.exports.Export.TheVariants as exports
 use Rattle.comp_roles.specs.declared.imports.Import.{Import}
 use Rattle.comp_roles.specs.declared.imports.ImportInstance.{ImportInstance}
 use Rattle.comp_roles.specs.declared.imports.ImportInstance.TheVariants as instances
 use Rattle.comp_worlds.specs.Encodable.{IsEncodable}
 use Rattle.comp_worlds.specs.Uses.{imports_of}
-use Rattle.comp_worlds.specs.Worlds.{IsImportRole, IsImportGroup, IsExportRole}
+use Rattle.comp_worlds.specs.Worlds.{IsImportRole, IsImportGroup}
 use Rattle.comp_worlds.specs.declared.world.ComponentWorld.{ComponentWorld}
 use Rattle.comp_links.specs.Modules.{UserImport, user_imports}
 use Rattle.shim_targets.proofs.Lists.{all_both}
@@ -38,16 +35,3 @@ import_role w ok i c =
     groups : (gs : List (List ℕ × ImportInstance)) → AllByRecursion (IsImportGroup w) gs → AllByRecursion (λ (i : CoreImport). IsImportRole w i.role) (flat_map imports_from gs)
     groups [] h = tt
     groups (g ∷ gs) h = all_both (λ (i : CoreImport). IsImportRole w i.role) (imports_from g) (flat_map imports_from gs) (group g h.0) (groups gs h.1)
-
--- ---- exports
-
-not_hook : (w : ComponentWorld) (role : Export) → IsExportRole w role → is_task_hook role ≡ false
-not_hook w exports.WasmTaskHook h = absurd h
-not_hook w role h = refl
-
-no_hook_in : (w : ComponentWorld) (es : List (List ℕ × Export)) → AllByRecursion (λ e. IsExportRole w e.1) es → first_export is_task_hook es ≡ None
-no_hook_in w [] h = refl
-no_hook_in w (e ∷ es) h = rw (not_hook w e.1 h.0) (no_hook_in w es h.1)
-
-pub no_hook : (w : ComponentWorld) → IsEncodable w → is_some (first_export is_task_hook w.main.exports.exports) ≡ false
-no_hook w ok = ap is_some (no_hook_in w w.main.exports.exports ok.valid.main.export_roles)

@@ -423,6 +423,7 @@ module _ (p : WorldParts) (present : HasSoundParts p) (linked : AreLinked p) (en
   export_role exports.GeneralPurposeExportRealloc h lifted = tt
   export_role exports.ReallocForAdapter h lifted = tt
   export_role exports.Initialize h lifted = tt
+  export_role exports.WasmTaskHook h lifted = tt
   export_role role h lifted = nothing _ h
 
   export_roles : (all : List (List ℕ × Export)) → AllByRecursion (λ e. export_left_out p.resolve.types e.1 ≡ None) all → AllByRecursion (λ e. IsLifted p.resolve p.world e.1) all
@@ -498,6 +499,7 @@ module _ (p : WorldParts) (present : HasSoundParts p) (linked : AreLinked p) (en
   export_typed exports.GeneralPurposeExportRealloc h = refl
   export_typed exports.ReallocForAdapter h = refl
   export_typed exports.Initialize h = refl
+  export_typed exports.WasmTaskHook h = refl
   export_typed role h = absurd h
 
   offered_exports : (m : ValidatedModule) (all : List (List ℕ × Export)) → AllByRecursion (λ e. IsExportRole (whole_of p) e.1) all → AllByRecursion (OffersExport p.resolve (items_of p) m) all

@@ -4,12 +4,12 @@
 -- that it imports, in their order and with all resources of the root among them, core imports and
 -- exports with the role of such a function, core imports that drop a resource, or make or read a
 -- handle of one that their module has to export, or return from a function that is exported, or are
--- a wait, a function of error contexts, one of a stream or a future, main's
--- memory, an export of main, a function that an adapter exports, an item of an argument of a library,
--- a built-in function without operands or a function of the thread-local base, and core exports that
--- are a post-return, a callback, a destructor, a memory or a realloc; of main, of adapters and of
--- libraries. All else is left out, and reported by the name of its kind. (The names are those of this
--- project's record.)
+-- a wait, a function of error contexts, one of a stream or a future, main's memory, an export of main,
+-- a function that an adapter exports, an item of an argument of a library, a built-in function without
+-- operands or a function of the thread-local base, and core exports that are a post-return, a callback,
+-- a destructor, a memory, a realloc, an initialization or a task hook; of main, of adapters and of
+-- libraries. All else is left out, and reported by the name of its kind. (The names are
+-- those of this project's record.)
 use Rattle.std.specs.Prelude.{ℕ, Bool, true, ◌++◌, List, length, codes, Option, Some, None, Result, Ok, Err, get_or, is_some, if◌then◌else◌}
 use Rattle.std.specs.List.{flat_map}
 use Rattle.std.specs.Map.{lookup}
@@ -154,8 +154,8 @@ own_role_left_out r es required (imports.ExportedTaskReturn key interface f) = u
 own_role_left_out r es required role = own_payload_left_out r es required role (called_payload role)
 
 -- an export of a module, unless it is a function at the root or of an interface in one of the forms
--- of exports, the post-return or the callback of one, the destructor of a resource, a memory, or a
--- realloc
+-- of exports, the post-return or the callback of one, the destructor of a resource, a memory, a
+-- realloc, an initialization, or a task hook
 abbrev pub export_left_out : List TypeDef → Export → Option (List ℕ)
 export_left_out types (exports.WorldFunc (keys.Name text) name GuestExport) = None
 export_left_out types (exports.WorldFunc (keys.Name text) name GuestExportAsync) = None
@@ -174,6 +174,7 @@ export_left_out types exports.GeneralPurposeImportRealloc = None
 export_left_out types exports.GeneralPurposeExportRealloc = None
 export_left_out types exports.ReallocForAdapter = None
 export_left_out types exports.Initialize = None
+export_left_out types exports.WasmTaskHook = None
 export_left_out types role = Some (export_kind role)
 
 -- the imports from one module: the first that is left out; none is where a whole instance satisfies them

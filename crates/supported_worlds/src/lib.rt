@@ -8,7 +8,7 @@
 //! whose interface the module itself has to export, of main's memory, of what main gives to others,
 //! of a function that an adapter does, or of an item of an argument of a library, whole instances
 //! in such arguments, and core exports with the role of such a function, of its post-return, of a
-//! destructor, of a memory or of a realloc. An exported interface may use, beside its own types,
+//! destructor, of a memory, of a realloc, of an initialization or of a task hook. An exported interface may use, beside its own types,
 //! the named types and the resources of interfaces that the world imports or exports. What is
 //! required of one module is required of no other. All else is left out. It is refused by the name
 //! of its kind (`specs/LeftOut.antt` and `specs/Kinds.antt` are the tables, `specs/Placed.antt`

@@ -135,7 +135,8 @@ fn export_left_out(types: &[TypeDef], role: &Export) -> Option<&'static str>
         | Export::GeneralPurposeImportRealloc
         | Export::GeneralPurposeExportRealloc
         | Export::ReallocForAdapter
-        | Export::Initialize => None,
+        | Export::Initialize
+        | Export::WasmTaskHook => None,
         _ => Some(export_kind(role)),
     }
 }

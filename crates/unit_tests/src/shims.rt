@@ -112,7 +112,7 @@ fn shims_bytes(alloc: Global, count: u32, debug_names: bool) -> Result<Vec<u8>, 
 /// The bytes of the fixup of so many shims.
 fn fixup_bytes(alloc: Global, count: u32, debug_names: bool) -> Result<Vec<u8>, AllocError> {
     let shims = some_shims(alloc, count)?;
-    let module = match fixup_of_shims(alloc, &shims, None, debug_names) {
+    let module = match fixup_of_shims(alloc, &shims, None, None, debug_names) {
         Ok(Some(fixup)) => Ok(Some(fixup.module)),
         Ok(None) => Ok(None),
         Err(fault) => Err(fault),

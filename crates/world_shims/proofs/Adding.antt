@@ -72,7 +72,8 @@ more_actual f name type h named room =
       room = room;
       few_types = omega (arith, few_types, one, count);
       few_imports = omega (arith, few_imports, count);
-      no_calls = h.no_calls;
+      no_users = h.no_users;
+      no_wrappers = h.no_wrappers;
     }
 
 -- ---- shims one after the other

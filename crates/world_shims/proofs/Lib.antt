@@ -9,4 +9,5 @@ pub mod Arguments
 pub mod Worked
 pub mod Digits
 pub mod FixupImports
+pub mod MainCalls
 pub mod Bases

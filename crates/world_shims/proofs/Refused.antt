@@ -81,7 +81,7 @@ table_alike f item h =
 
 -- ---- how many are imported
 
-filtered_few : {X : Type 0} (p : X → Bool) (xs : List X) → length (filter p xs) ≤ length xs
+pub filtered_few : {X : Type 0} (p : X → Bool) (xs : List X) → length (filter p xs) ≤ length xs
 filtered_few p xs = let whole = length-filter_both p (λ x. not (p x)) (λ x. refl) xs in omega (arith, whole)
 
 pub none_passes : {X : Type 0} (p : X → Bool) (xs : List X) → AllByRecursion (λ x. p x ≡ false) xs → length (filter p xs) ≡ 0

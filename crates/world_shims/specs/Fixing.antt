@@ -24,7 +24,8 @@ pub record IsFromActual (f : Fixup) : Type 0 where
   pub room : length f.fills < 2 ^ 32
   pub few_types : length f.types ≤ length f.fills
   pub few_imports : length f.imported.entries ≤ length f.fills
-  pub no_calls : f.calls ≡ []
+  pub no_users : f.users ≡ []
+  pub no_wrappers : f.wrappers ≡ []
 
 -- The shim is that of the next place.
 pub record IsNext (f : Fixup) (s : Shim) : Type 0 where

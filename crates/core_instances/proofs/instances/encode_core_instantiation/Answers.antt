@@ -8,7 +8,7 @@ use Rattle.comp_links.specs.Supplied.{IsSuppliedImport}
 use Rattle.comp_terms.specs.Rules.{Grows, resources_marked, users_marked}
 use Rattle.comp_links.specs.Modules.{UserImport, user_imports}
 use Rattle.comp_worlds.specs.Encodable.{IsEncodable}
-use Rattle.main_fixup.specs.Filling.{AreFillSources, HasShimOptions}
+use Rattle.main_fixup.specs.Filling.{AreFillSources, HasShimOptions, IsShimsAt}
 use Rattle.main_fixup.specs.declared.sources.FillSources.{FillSources}
 use Rattle.main_instance.specs.Sources.{AreSources, IsShimInstance, shared_export}
 use Rattle.main_instance.specs.declared.instances.ImportSources.{ImportSources}
@@ -145,7 +145,10 @@ encode_indirect_lowerings-requires-clause-sources c =
     let users : AreUserInstances w d.items.defs s.instances.now = subst (AreUserInstances w d.items.defs) (sym g.instances) (subst (λ x. AreUserInstances x.now d.items.defs c.in_ok-instances.instances) k.world f.made) in
     let exports : AreExportsMet w d.met = subst (λ (m : MetTypes). AreExportsMet w m) (sym f.kept.met) (subst (λ x. AreExportsMet x.now b.met) a_world c.in_ok-define_exported_types.ensures.met) in
     let ordered : AreExportsInOrder w = subst (λ x. AreExportsInOrder x.now) a_world c.in_ok-define_exported_types.ensures.ordered in
-    subst (λ x. AreFillSources x.now s d.met d.items.defs d.maps d.instances) (sym later.world) (fills_after (extends_none d.items) s made users exports ordered)
+    let mid = c.encode_shim_instantiation.new.root.items.defs in
+    let next : IsFixupNext w d.items.defs c.in_ok-generated.generated.instance = fixup_next w c.args.debug_names c.args.root.now.items.defs mid d.items.defs c.in_ok-generated.generated.instance c.requires.users c.in_ok-generated.ensures.added (users_grow c.args.root.now c.encode_shim_instantiation.new.root b d c.in_ok-generated.ensures.same k c.in_ok-define_exported_types.ensures.grows f.grows) in
+    let there : (shims_of w ≡ [] → ⊥) → IsShimsAt w d.items.defs s.shim_instance = subst (λ i. (shims_of w ≡ [] → ⊥) → IsShimsAt w d.items.defs i) (sym g.shim_instance) next.made in
+    subst (λ x. AreFillSources x.now s d.met d.items.defs d.maps d.instances) (sym later.world) (fills_after (extends_none d.items) s made users exports ordered (g.shims ∙ c.in_ok-shims.ensures.ok) there)
 
 pub encode_indirect_lowerings-requires-clause-next : goal.encode_indirect_lowerings-requires-clause-next
 encode_indirect_lowerings-requires-clause-next c =

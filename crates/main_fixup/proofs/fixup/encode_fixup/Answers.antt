@@ -14,7 +14,7 @@ use Rattle.comp_items.proofs.Remembering.{longer}
 use Rattle.comp_terms.specs.Generated.{fixup_number}
 use Rattle.comp_terms.specs.Rules.{Grows, ModuleIs, InstanceOf, InstantiatesFixup, IsFixupArgument, instances_in, made_before_fixup}
 use Rattle.fixup_modules.specs.declared.instances.ImportedInstance.{ImportedInstance}
-use Rattle.world_shims.specs.WorldShims.{shims_of, initialize_of, fixup_instances}
+use Rattle.world_shims.specs.WorldShims.{shims_of, initialize_of, hook_of, fixup_instances}
 use Rattle.root_imports.specs.Growing.{Grows-then, longer_by}
 use Rattle.root_imports.proofs.Keeping.{kept_items, kept_none, kept_then}
 use Rattle.root_imports.specs.Keeping.{Root, RootKept}
@@ -35,7 +35,7 @@ fixup_arguments-requires-clause-there c =
     let ds = c.core_module.new.self.defs in
     let g : Extends c.args.root.now.items c.core_module.new.self = search (extends_adds, rules) in
     subst (AllByRecursion (λ (i : List ℕ × ImportedInstance). IsSourceThere w ds c.args.shim_instance i.1)) (sym c.requires.instances)
-    (all_there w ds c.args.shim_instance (shims_of w) (initialize_of w) (λ any. shims-kept w (longer g) c.args.shim_instance (c.requires.made any)))
+    (all_there w ds c.args.shim_instance (shims_of w) (initialize_of w) (hook_of w) (λ any. shims-kept w (longer g) c.args.shim_instance (c.requires.made any)))
 
 pub returns-clause-grows : goal.returns-clause-grows
 returns-clause-grows c =
@@ -64,7 +64,7 @@ pub returns-clause-offered : goal.returns-clause-offered
 returns-clause-offered c =
     let w = c.args.root.now.world.now in
     let offered = subst (AllByRecursion (λ (i : List ℕ × ImportedInstance). HasSourceOptions w i.1)) c.requires.instances c.in_ok-arguments.ensures.offered in
-    all_offered w (shims_of w) (initialize_of w) refl offered
+    all_offered w (shims_of w) (initialize_of w) (hook_of w) refl offered
 
 pub returns-in_err-arguments-clause-kept : goal.returns-in_err-arguments-clause-kept
 returns-in_err-arguments-clause-kept c =

@@ -50,7 +50,7 @@ invariant_of-self-2 c =
     let step = ap (λ (e : Encoding). e.step) c.self.view_is ∙ c.requires.imported in
     let moved : IsEncoding w r.met r.items.defs r.maps r.instances in'.step in'.functions in'.users = encoding-moved k.extends k.tables k.last (not_yet step) c.self.invariant in
     subst (λ x. IsEncoding x.now r.met r.items.defs r.maps r.instances Instantiated in'.functions (Some c.in_ok-users.users)) (sym k.world)
-    (encoding-instantiated c.in_ok-users.users (imported_now step) c.in_ok-users.ensures.made (record { ordered = c.in_ok-users.ensures.ordered; at_hand = at_hand_start w r.met (exports_in r.items.defs) c.in_ok-users.ensures.met }) moved)
+    (encoding-instantiated c.in_ok-users.users (imported_now step) c.in_ok-users.ensures.made c.in_ok-users.ensures.hooked (record { ordered = c.in_ok-users.ensures.ordered; at_hand = at_hand_start w r.met (exports_in r.items.defs) c.in_ok-users.ensures.met }) moved)
 
 pub returns-clause-ordered : goal.returns-clause-ordered
 returns-clause-ordered c = subst (λ (e : Encoding). AreExportsInOrder e.world) c.self.view_is c.in_ok-users.ensures.ordered

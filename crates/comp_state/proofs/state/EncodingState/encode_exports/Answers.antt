@@ -9,7 +9,7 @@ use Rattle.core_options.specs.Causes.{IsCause, IsEncodedExport}
 use Rattle.core_options.specs.MainOptions.{HasLiftOptions}
 use Rattle.comp_state.specs.Tables.{IsEncoding}
 use Rattle.comp_state.specs.Encoding.{Encoding, naming_in}
-use Rattle.comp_state.proofs.Growth.{encoding-moved, imports_made, users_known, users_made}
+use Rattle.comp_state.proofs.Growth.{encoding-moved, imports_made, users_known, users_made, users_hooked}
 use Rattle.comp_state.proofs.state.EncodingState.encode_exports.Goals as goal
 
 pub unreachable-requires : goal.unreachable-requires
@@ -20,6 +20,9 @@ export_all-requires-clause-valid c = c.self.invariant.valid
 
 pub export_all-requires-clause-made : goal.export_all-requires-clause-made
 export_all-requires-clause-made c = users_made c.self.invariant (ap (λ (e : Encoding). e.step) c.self.view_is ∙ c.requires.instantiated) c.in-Some.users c.in-Some.is
+
+pub export_all-requires-clause-hooked : goal.export_all-requires-clause-hooked
+export_all-requires-clause-hooked c = users_hooked c.self.invariant (ap (λ (e : Encoding). e.step) c.self.view_is ∙ c.requires.instantiated) c.in-Some.users c.in-Some.is
 
 pub export_all-requires-clause-tables : goal.export_all-requires-clause-tables
 export_all-requires-clause-tables c = (imports_made c.self.invariant (ap (λ (e : Encoding). e.step) c.self.view_is ∙ c.requires.instantiated)).tables

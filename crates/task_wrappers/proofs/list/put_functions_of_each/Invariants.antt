@@ -1,0 +1,10 @@
+use Rattle.std.proofs.Common.{◌≡◌, ◌++◌}
+use Rattle.std.specs.List.{flat_map}
+use Rattle.task_wrappers.specs.TaskWrappers.{functions_of_adapter}
+use Rattle.task_wrappers.proofs.list.put_functions_of_each.Given as goal
+
+abbrev pub invariant-loop-name : goal.invariant-loop-name
+invariant-loop-name l =
+    goal.iterator-loop-name.can_next l.name-iterator ×
+    goal.iterator-loop-name.is_finite l.name-iterator ×
+    (l.list.items ++ flat_map functions_of_adapter l.name-iterator ≡ l.fn.list.items ++ flat_map functions_of_adapter l.adapters)
