@@ -207,6 +207,8 @@ usage: component_new new OUT MAIN [options] | lint MAIN [options] | record OUT M
   --adapt NAME=FILE  new, lint: add the adapter in FILE under this name; any number of times
   --canonical        new: have the canonical part of versions in names, and the rest as suffixes
   --dot, --mermaid   links: print a graph, in the language of Graphviz or of Mermaid
+  --explain          print below the line of a fault what is needed to mend it
+  --lint             new: print the warnings that `lint` has
   --no-merge         new: don't merge imports of compatible versions
   --no-names         new: don't name the functions of the core modules that are generated
   --validate         new: check the names of the component's imports and exports

@@ -15,7 +15,7 @@ use std::io::Write;
 
 /// Why arguments are not texts.
 #[derive(Clone, Copy, Debug, PartialEq, Eq)]
-enum WordsFault {
+pub enum WordsFault {
     /// Out of memory.
     Memory,
     /// An argument is not UTF-8: its number, from 1.
@@ -23,7 +23,7 @@ enum WordsFault {
 }
 
 /// The arguments as texts, or the number of the first that is not UTF-8.
-fn words_of(alloc: Global, arguments: &[Vec<u8>]) -> Result<Vec<String>, WordsFault>
+pub fn words_of(alloc: Global, arguments: &[Vec<u8>]) -> Result<Vec<String>, WordsFault>
     ensures ok { IfOk result
         (λ words. map string_bytes words.items ≡ map (λ a. a.items) arguments.now) }
     ensures texts { IsOk result → first_not_text 1 (map (λ a. a.items) arguments.now) ≡ None }

@@ -1,8 +1,7 @@
 //! The advice of a fault.
 
 use crate::exports::put_missing as put_missing_function;
-use crate::given::{Given, known_of, put_place, refused};
-use crate::given::Known;
+use crate::given::{Given, Known, is_named, known_of, put_place, refused};
 use crate::imports::{put_import, put_taking};
 use crate::kinds::kind_line;
 use crate::places::{Missing, put_missing};
@@ -167,6 +166,34 @@ pub fn place_advice(
     let known = known_of(alloc, given)?;
     let mut out = String::new(alloc);
     put_missing(alloc, &mut out, missing, known.as_slice(), place)?;
+    Ok(out)
+}
+
+/// The same where what is refused is known without the lower layer.
+pub fn plain_advice(
+    alloc: Global,
+    given: Seq<Given>,
+    fault: &PlainFault,
+) -> Result<String, AllocError> {
+    let known = known_of(alloc, given)?;
+    let mut out = String::new(alloc);
+    put_plain(alloc, &mut out, known.as_slice(), fault)?;
+    Ok(out)
+}
+
+/// Where the adapter of a name is, or main, where there is no name.
+pub fn module_advice(
+    alloc: Global,
+    given: &[Given],
+    adapter: Option<&Text>,
+) -> Result<String, AllocError> {
+    let mut out = String::new(alloc);
+    for one in given {
+        if is_named(one, adapter) {
+            put_place(&mut out, one)?;
+            return Ok(out);
+        }
+    }
     Ok(out)
 }
 

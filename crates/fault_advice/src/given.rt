@@ -4,7 +4,7 @@ ghost use Rattle.std.specs.Prelude.{◌≡◌, ◌++◌, not, find, is_some, map
 ghost use Rattle.std.specs.List.{AllByRecursion};
 ghost use Rattle.std.specs.Option.{option_copied};
 ghost use Rattle.comp_lists.specs.Found.{found};
-ghost use Rattle.fault_advice.specs.Given.{IsRead, IsReadRest, IsFaithful, is_read, is_adapter, is_main, exports_in, place_line};
+ghost use Rattle.fault_advice.specs.Given.{IsRead, IsReadRest, IsFaithful, is_read, is_adapter, is_main, is_named, exports_in, place_line};
 
 use crate::lines::put_about;
 use comp_lists::{Bytes, Keyed, Seq, SharedBytes, Text};
@@ -110,6 +110,16 @@ fn is_adapter(given: &Given, name: &Text) -> bool
     match &given.adapter {
         Some(adapter) => adapter == name,
         None => false,
+    }
+}
+
+/// Whether a module is the adapter of a name, or main, where there is no name.
+pub(crate) fn is_named(given: &Given, name: Option<&Text>) -> bool
+    ensures { result ≡ is_named (option_copied name.entry) given.now }
+{
+    match name {
+        Some(name) => is_adapter(given, name),
+        None => given.adapter.is_none(),
     }
 }
 

@@ -27,7 +27,7 @@ mod types;
 mod unfit;
 mod words;
 
-pub use advising::{file_advice, lower_advice, place_advice};
+pub use advising::{file_advice, lower_advice, module_advice, place_advice, plain_advice};
 pub use given::Given;
 pub use places::Missing;
 pub use words::usage_advice;

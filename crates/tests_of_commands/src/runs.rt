@@ -367,6 +367,8 @@ fn help_and_version_are_printed(rt: HostRuntime) -> Result<(), Fail> {
         \x20 --adapt NAME=FILE  new, lint: add the adapter in FILE under this name; any number of times\n\
         \x20 --canonical        new: have the canonical part of versions in names, and the rest as suffixes\n\
         \x20 --dot, --mermaid   links: print a graph, in the language of Graphviz or of Mermaid\n\
+        \x20 --explain          print below the line of a fault what is needed to mend it\n\
+        \x20 --lint             new: print the warnings that `lint` has\n\
         \x20 --no-merge         new: don't merge imports of compatible versions\n\
         \x20 --no-names         new: don't name the functions of the core modules that are generated\n\
         \x20 --validate         new: check the names of the component's imports and exports\n\

@@ -1,0 +1,146 @@
+//! A run that says more than its fault.
+
+ghost use Rattle.std.specs.Prelude.{◌≡◌, ◌≢◌, false, map, string_bytes};
+ghost use Rattle.atomic_files.specs.Files.{Known};
+ghost use Rattle.atomic_files.specs.Steps.{Kept as KeptFiles};
+ghost use Rattle.explained_runs.specs.Runs.{RanAsked, StartedAsked, SaysMore};
+
+use crate::advice::advice_of;
+use crate::asked::{Asked, take_asked};
+use crate::kept::{Kept, KeptFile};
+use crate::modules::{given_of, modules_of};
+use crate::reasons::Reasons;
+use command_line::{
+    MEMORY, RunFault, Store, WordsFault, adapters, is_listing, perform, report, say,
+    say_not_text, status_of, words_of,
+};
+use comp_lists::Seq;
+use fault_advice::Given;
+use module_warnings::warnings_text;
+use package_lower::{LowerFault, PackageLower};
+use std::alloc::{AllocError, Global};
+use std::io::Write;
+
+/// The warnings of modules, where all that they say can be read.
+fn warnings_of(alloc: Global, given: &[Given]) -> Result<String, AllocError> {
+    let Some(modules) = modules_of(alloc, given)? else {
+        return Ok(String::new(alloc));
+    };
+    match warnings_text(alloc, modules) {
+        Ok(text) => Ok(text),
+        Err(_) => Ok(String::new(alloc)),
+    }
+}
+
+/// What is needed where a run failed; nothing where it didn't.
+fn needed<R: Reasons>(
+    alloc: Global,
+    words: &[String],
+    given: Seq<Given>,
+    reasons: &mut R,
+    done: &Result<(), RunFault<LowerFault>>,
+) -> Result<String, AllocError> {
+    match done {
+        Ok(()) => Ok(String::new(alloc)),
+        Err(fault) => advice_of(alloc, words, given, reasons, fault),
+    }
+}
+
+/// All that is said beside the line of a run's fault.
+fn more_of<R: Reasons>(
+    alloc: Global,
+    asked: Asked,
+    words: &[String],
+    files: Seq<KeptFile>,
+    reasons: &mut R,
+    done: &Result<(), RunFault<LowerFault>>,
+) -> Result<String, AllocError> {
+    let named = adapters(alloc, words)?;
+    let given = given_of(alloc, files, named.as_slice())?;
+    let warnings = if asked.lints {
+        warnings_of(alloc, given.as_slice())?
+    } else {
+        String::new(alloc)
+    };
+    let mut more = if asked.explains {
+        needed(alloc, words, given, reasons, done)?
+    } else {
+        String::new(alloc)
+    };
+    more.push_str(warnings.as_str())?;
+    Ok(more)
+}
+
+/// Says what is asked for beside a run; nothing where there is no memory for it.
+fn say_more<R: Reasons, E: Write>(
+    alloc: Global,
+    asked: Asked,
+    words: &[String],
+    files: Seq<KeptFile>,
+    reasons: &mut R,
+    done: &Result<(), RunFault<LowerFault>>,
+    err: &mut E,
+)
+    ensures { SaysMore asked (E.contents err.old) (E.contents err.new) }
+{
+    if !asked.explains && !asked.lints {
+        return;
+    }
+    if let Ok(text) = more_of(alloc, asked, words, files, reasons, done) {
+        say(err, text.as_bytes());
+    }
+}
+
+/// Runs the program on these words, and says what they ask for beside that.
+fn run_asked<S: Store, R: Reasons, W: Write, E: Write>(
+    alloc: Global,
+    words: Vec<String>,
+    store: &mut Kept<S>,
+    reasons: &mut R,
+    out: &mut W,
+    err: &mut E,
+) -> u8
+    ensures ran { RanAsked (map string_bytes words.items) (S.events store.old.store)
+        (S.events store.new.store) (W.contents out.old) (W.contents out.new)
+        (E.contents err.old) (E.contents err.new) result }
+    ensures files { result ≢ 0
+        → Known KeptFiles (S.files store.old.store) (S.files store.new.store) }
+{
+    let mut words = words;
+    let asked = take_asked(&mut words);
+    store.keep(asked.explains || asked.lints);
+    let done = perform(alloc, PackageLower::new(), &words, store, out);
+    report(alloc, err, is_listing(&words), &done);
+    let files = store.take_files();
+    say_more(alloc, asked, &words, files, reasons, &done, err);
+    status_of(&done)
+}
+
+/// Runs the program. `arguments` are those after the program's name, as the system gives them; the result is the exit
+/// status. `--explain` among them, and `--lint` behind `new`, add lines to standard error, and change nothing else.
+pub fn start<S: Store, R: Reasons, W: Write, E: Write>(
+    alloc: Global,
+    arguments: &[Vec<u8>],
+    store: &mut Kept<S>,
+    reasons: &mut R,
+    out: &mut W,
+    err: &mut E,
+) -> u8
+    ensures started { StartedAsked (map (λ a. a.items) arguments.now) (S.events store.old.store)
+        (S.events store.new.store) (W.contents out.old) (W.contents out.new)
+        (E.contents err.old) (E.contents err.new) result }
+    ensures files { result ≢ 0
+        → Known KeptFiles (S.files store.old.store) (S.files store.new.store) }
+{
+    match words_of(alloc, arguments) {
+        Ok(words) => run_asked(alloc, words, store, reasons, out, err),
+        Err(WordsFault::NotText(number)) => {
+            say_not_text(alloc, err, number);
+            2
+        }
+        Err(WordsFault::Memory) => {
+            say(err, MEMORY);
+            1
+        }
+    }
+}
