@@ -4,6 +4,7 @@ ghost use Rattle.std.specs.Prelude.{◌≡◌, ◌++◌, [], list_any, string_by
 ghost use Rattle.std.specs.Option.{option_copied};
 ghost use Rattle.world_names.specs.WorldNames.{owned};
 ghost use Rattle.fault_advice.specs.Exports as spec;
+ghost use Rattle.fault_advice.specs.Lines.{PutsIf, first_text};
 
 use crate::given::{Known, Read, put_place};
 use crate::lines::{put_about, put_near_end};
@@ -280,6 +281,8 @@ fn put_missing_in(
     read: &Read,
     name: &str,
 ) -> Result<bool, AllocError>
+    ensures { IfOk result (PutsIf (string_bytes out.old) (string_bytes out.new)
+        (spec.missing_in known.now read.now name.now)) }
 {
     let fields = fields_of(alloc, &read.said.roles.export_roles)?;
     let Some(function) = exported(alloc, read, &fields, false, name)? else {
@@ -299,6 +302,8 @@ fn put_callback_in(
     read: &Read,
     name: &str,
 ) -> Result<bool, AllocError>
+    ensures { IfOk result (PutsIf (string_bytes out.old) (string_bytes out.new)
+        (spec.callback_in known.now read.now name.now)) }
 {
     let fields = fields_of(alloc, &read.said.roles.export_roles)?;
     let Some(function) = exported(alloc, read, &fields, true, name)? else {
@@ -309,6 +314,45 @@ fn put_callback_in(
     Ok(true)
 }
 
+/// The same of the first module that has such a function.
+fn put_first_missing(
+    alloc: Global,
+    out: &mut String,
+    known: &[Known],
+    name: &str,
+) -> Result<bool, AllocError>
+    ensures { IfOk result (PutsIf (string_bytes out.old) (string_bytes out.new)
+        (first_text (spec.missing_of name.now) known.now)) }
+{
+    for one in known {
+        if let Some(read) = &one.read {
+            if put_missing_in(alloc, out, one, read, name)? {
+                return Ok(true);
+            }
+        }
+    }
+    Ok(false)
+}
+
+fn put_first_callback(
+    alloc: Global,
+    out: &mut String,
+    known: &[Known],
+    name: &str,
+) -> Result<bool, AllocError>
+    ensures { IfOk result (PutsIf (string_bytes out.old) (string_bytes out.new)
+        (first_text (spec.callback_of name.now) known.now)) }
+{
+    for one in known {
+        if let Some(read) = &one.read {
+            if put_callback_in(alloc, out, one, read, name)? {
+                return Ok(true);
+            }
+        }
+    }
+    Ok(false)
+}
+
 /// Which function has no core export, or no callback, where it stands, and what is missing.
 pub(crate) fn put_missing(
     alloc: Global,
@@ -316,20 +360,12 @@ pub(crate) fn put_missing(
     known: &[Known],
     name: &str,
 ) -> Result<(), AllocError>
+    ensures { OnOk result (string_bytes out.new
+        ≡ string_bytes out.old ++ spec.missing_lines known.now name.now) }
 {
-    for one in known {
-        if let Some(read) = &one.read {
-            if put_missing_in(alloc, out, one, read, name)? {
-                return Ok(());
-            }
-        }
+    if put_first_missing(alloc, out, known, name)? {
+        return Ok(());
     }
-    for one in known {
-        if let Some(read) = &one.read {
-            if put_callback_in(alloc, out, one, read, name)? {
-                return Ok(());
-            }
-        }
-    }
+    let _there = put_first_callback(alloc, out, known, name)?;
     Ok(())
 }

@@ -231,10 +231,35 @@ fn put_no_interface(
     Ok(())
 }
 
-/// That a name means nothing in a world.
-fn put_meaningless(out: &mut String, wit: &Wit, name: &ImportName) -> Result<(), AllocError>
+fn near_item<'a>(items: &'a Keyed<ItemKey, Item>, name: &Text) -> Option<&'a Text>
+    ensures { option_copied result ≡ spec.near_item items.now name.now }
+{
+    for (key, _) in items.iter() {
+        if is_near(name.as_str(), key.text().as_str()) {
+            return Some(key.text());
+        }
+    }
+    None
+}
+
+/// That the world itself has no function of this name.
+fn put_no_item(
+    out: &mut String,
+    items: &Keyed<ItemKey, Item>,
+    field: &Text,
+) -> Result<(), AllocError>
     ensures { OnOk result (string_bytes out.new
-        ≡ string_bytes out.old ++ spec.meaningless wit.now name.now) }
+        ≡ string_bytes out.old ++ spec.no_item items.now field.now) }
+{
+    put_about(out, "  its world imports no function ", field.as_str())?;
+    put_near_end(out, near_item(items, field))?;
+    Ok(())
+}
+
+/// That no interface of a name is there, or that it has no such function.
+fn put_not_there(out: &mut String, wit: &Wit, name: &ImportName) -> Result<(), AllocError>
+    ensures { OnOk result (string_bytes out.new
+        ≡ string_bytes out.old ++ spec.not_there wit.now name.now) }
 {
     match functions_at(&wit.interfaces, &name.module) {
         Some(functions) => put_no_function(out, functions, name),
@@ -242,22 +267,29 @@ fn put_meaningless(out: &mut String, wit: &Wit, name: &ImportName) -> Result<(),
     }
 }
 
+/// That a name means nothing in a world.
+fn put_meaningless(out: &mut String, wit: &Wit, name: &ImportName) -> Result<(), AllocError>
+    ensures { OnOk result (string_bytes out.new
+        ≡ string_bytes out.old ++ spec.meaningless wit.now name.now) }
+{
+    if is_silent(wit) {
+        return out.push_str("  it has no record and no package that says what this import is\n");
+    }
+    if name.module.as_str() == "$root" {
+        return put_no_item(out, &wit.imports, &name.field);
+    }
+    put_not_there(out, wit, name)
+}
+
 /// That a name has no role.
 fn put_no_role(out: &mut String, read: &Read, name: &ImportName) -> Result<(), AllocError>
     ensures { OnOk result (string_bytes out.new
         ≡ string_bytes out.old ++ spec.no_role read.now name.now) }
 {
-    if is_silent(&read.said.wit) {
-        return out.push_str("  it has no record and no package that says what this import is\n");
-    }
     match near_role(&read.said.roles.import_roles, name) {
         Some(near) => {
-            put_pair(
-                out,
-                "  it has no role; the nearest name that has one is ",
-                near.module.as_str(),
-                near.field.as_str(),
-            )?;
+            let words = "  it has no role; the nearest name that has one is ";
+            put_pair(out, words, near.module.as_str(), near.field.as_str())?;
             out.push_str("\n")
         }
         None => put_meaningless(out, &read.said.wit, name),
@@ -329,16 +361,48 @@ fn put_main(out: &mut String, known: &[Known], name: &Text) -> Result<(), AllocE
     }
 }
 
-/// What is wrong with a role.
-fn put_role(out: &mut String, known: &[Known], role: &ImportRole) -> Result<(), AllocError>
+/// Whether a role is that of a name which means nothing: an export of its module, as of an adapter.
+fn is_own(name: &ImportName, adapter: &Text, function: &Text) -> bool
+    ensures { result ≡ spec.is_own name.now adapter.now function.now }
+{
+    name.module == *adapter && name.field == *function
+}
+
+/// That a name means nothing, neither in a world nor as an export of an adapter.
+fn put_unnamed(
+    out: &mut String,
+    known: &[Known],
+    wit: &Wit,
+    name: &ImportName,
+) -> Result<(), AllocError>
     ensures { OnOk result (string_bytes out.new
-        ≡ string_bytes out.old ++ spec.role_line known.now role.now) }
+        ≡ string_bytes out.old ++ spec.unnamed known.now wit.now name.now) }
+{
+    if adapter_of(known, &name.module).is_none() {
+        put_meaningless(out, wit, name)?;
+    }
+    put_adapter(out, known, &name.module, &name.field)
+}
+
+/// What is wrong with a role.
+fn put_role(
+    out: &mut String,
+    known: &[Known],
+    wit: &Wit,
+    name: &ImportName,
+    role: &ImportRole,
+) -> Result<(), AllocError>
+    ensures { OnOk result (string_bytes out.new
+        ≡ string_bytes out.old ++ spec.role_line known.now wit.now name.now role.now) }
 {
     if !is_vain(known, role) {
         return out.push_str("  this module can't have the role that its record gives it\n");
     }
     match role {
         ImportRole::AdapterExport { adapter, function } => {
+            if is_own(name, adapter, function) {
+                return put_unnamed(out, known, wit, name);
+            }
             put_adapter(out, known, adapter, function)
         }
         ImportRole::MainExport { name, kind: _ } => put_main(out, known, name),
@@ -356,7 +420,7 @@ fn put_reason(
         ≡ string_bytes out.old ++ spec.reason known.now read.now name.now) }
 {
     match read.said.roles.import_roles.get(name) {
-        Some(role) => put_role(out, known, role),
+        Some(role) => put_role(out, known, &read.said.wit, name, role),
         None => put_no_role(out, read, name),
     }
 }

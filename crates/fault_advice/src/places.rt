@@ -2,6 +2,7 @@
 
 ghost use Rattle.std.specs.Prelude.{◌≡◌, ◌++◌, find, string_bytes, IfOk, OnOk};
 ghost use Rattle.std.specs.Option.{option_copied};
+ghost use Rattle.fault_advice.specs.Lines.{PutsIf, first_text};
 ghost use Rattle.fault_advice.specs.Places as spec;
 
 use crate::exports::{exported, fields_of, put_function};
@@ -237,6 +238,8 @@ fn put_import_in(
     core: &CoreModule,
     place: &str,
 ) -> Result<bool, AllocError>
+    ensures { IfOk result (PutsIf (string_bytes out.old) (string_bytes out.new)
+        (spec.import_in missing known.now one.now core.now place.now)) }
 {
     let Some(import) = import_at(core.imports.as_slice(), place) else {
         return Ok(false);
@@ -258,6 +261,8 @@ fn put_export_in(
     read: &Read,
     place: &str,
 ) -> Result<bool, AllocError>
+    ensures { IfOk result (PutsIf (string_bytes out.old) (string_bytes out.new)
+        (spec.export_in missing known.now one.now read.now place.now)) }
 {
     let fields = fields_of(alloc, &read.said.roles.export_roles)?;
     let Some(function) = exported(alloc, read, &fields, true, function_at(place))? else {
@@ -269,6 +274,47 @@ fn put_export_in(
     Ok(true)
 }
 
+/// The core import of the first module that has it.
+fn put_first_import(
+    out: &mut String,
+    missing: Missing,
+    known: &[Known],
+    place: &str,
+) -> Result<bool, AllocError>
+    ensures { IfOk result (PutsIf (string_bytes out.old) (string_bytes out.new)
+        (first_text (spec.import_of missing known.now place.now) known.now)) }
+{
+    for one in known {
+        if let Some(read) = &one.read {
+            if put_import_in(out, missing, known, one, &read.core, place)? {
+                return Ok(true);
+            }
+        }
+    }
+    Ok(false)
+}
+
+/// The exported function of the first module that has it.
+fn put_first_export(
+    alloc: Global,
+    out: &mut String,
+    missing: Missing,
+    known: &[Known],
+    place: &str,
+) -> Result<bool, AllocError>
+    ensures { IfOk result (PutsIf (string_bytes out.old) (string_bytes out.new)
+        (first_text (spec.export_of missing known.now place.now) known.now)) }
+{
+    for one in known {
+        if let Some(read) = &one.read {
+            if put_export_in(alloc, out, missing, known, one, read, place)? {
+                return Ok(true);
+            }
+        }
+    }
+    Ok(false)
+}
+
 /// What needs the memory or the realloc at a place, where it stands, and what is there instead.
 pub(crate) fn put_missing(
     alloc: Global,
@@ -277,20 +323,14 @@ pub(crate) fn put_missing(
     known: &[Known],
     place: &str,
 ) -> Result<(), AllocError>
+    ensures { OnOk result (string_bytes out.new
+        ≡ string_bytes out.old ++ spec.missing_lines missing known.now place.now) }
 {
-    for one in known {
-        if let Some(read) = &one.read {
-            if put_import_in(out, missing, known, one, &read.core, place)? {
-                return Ok(());
-            }
-        }
+    if put_first_import(out, missing, known, place)? {
+        return Ok(());
     }
-    for one in known {
-        if let Some(read) = &one.read {
-            if put_export_in(alloc, out, missing, known, one, read, place)? {
-                return Ok(());
-            }
-        }
+    if put_first_export(alloc, out, missing, known, place)? {
+        return Ok(());
     }
     put_main(out, missing, known)
 }

@@ -14,6 +14,10 @@ use record_role_targets::{ImportTargets, resolved_export};
 use record_values::{ExportRole, ImportName, ImportRole, PlainExport, Wit};
 use record_versions::{MergedVersions, merge_versions};
 use std::alloc::{AllocError, Global};
+use wit_data::WorldId;
+
+/// The one world of a resolve.
+const WORLD: WorldId = WorldId { index: 0 };
 
 // ---- the world of a module
 
@@ -100,7 +104,7 @@ fn put_world_type(
 ) -> Result<(), AllocError> {
     match meaning_of(alloc, core, targets, import, name)? {
         Some(meaning) => {
-            let required = required_import(alloc, &targets.resolved().resolve, &meaning)?;
+            let required = required_import(alloc, &targets.resolved().resolve, WORLD, &meaning)?;
             put_type_if(out, required)
         }
         None => Ok(()),
@@ -162,7 +166,7 @@ fn required_of_export(
         return Ok(out);
     }
     if let Some(export) = export_of(alloc, core, resolved, role, item)? {
-        let required = required_export(alloc, &resolved.resolve, &export)?;
+        let required = required_export(alloc, &resolved.resolve, WORLD, &export)?;
         put_type_if(&mut out, required)?;
     }
     Ok(out)
