@@ -1,11 +1,10 @@
 //! Why the system refuses a file.
 
 use explained_runs::{Reason, Reasons};
-use std::fs;
 use std::fs::{File, Metadata};
-use std::io;
 use std::io::ErrorKind;
 use std::rt::Files as SystemFiles;
+use std::{fs, io};
 
 /// The system, which is asked once more.
 #[derive(Drop)]

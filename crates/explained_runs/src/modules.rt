@@ -1,5 +1,8 @@
 //! Files that were read, as modules.
 
+ghost use Rattle.std.specs.Prelude.{◌≡◌, ◌++◌, filter_map, option_to_list, IfOk, OnOk};
+ghost use Rattle.explained_runs.specs.Modules as spec;
+
 use crate::kept::KeptFile;
 use command_line::Adapter;
 use comp_lists::{Seq, Text};
@@ -8,11 +11,9 @@ use fitted_modules::{Modules, NamedModule};
 use std::alloc::{AllocError, Global};
 
 /// The name of the adapter whose file was read at a position: the first file is main's.
-fn name_at(
-    alloc: Global,
-    adapters: &[Adapter],
-    position: usize,
-) -> Result<Option<Text>, AllocError> {
+fn name_at(alloc: Global, adapters: &[Adapter], position: usize) -> Result<Option<Text>, AllocError>
+    ensures { IfOk result (λ n. n ≡ spec.name_at adapters.now position) }
+{
     if position == 0 {
         return Ok(None);
     }
@@ -27,7 +28,9 @@ fn given_at(
     adapters: &[Adapter],
     position: usize,
     file: KeptFile,
-) -> Result<Given, AllocError> {
+) -> Result<Given, AllocError>
+    ensures { IfOk result (λ g. g ≡ spec.given_at adapters.now position file) }
+{
     let adapter = name_at(alloc, adapters, position)?;
     let KeptFile { name, bytes } = file;
     Ok(Given {
@@ -42,7 +45,9 @@ pub(crate) fn given_of(
     alloc: Global,
     files: Seq<KeptFile>,
     adapters: &[Adapter],
-) -> Result<Seq<Given>, AllocError> {
+) -> Result<Seq<Given>, AllocError>
+    ensures { IfOk result (λ gs. gs ≡ spec.given_of files adapters.now) }
+{
     let mut given = Seq::new(alloc);
     for file in files.into_vec() {
         let position = given.len();
@@ -56,7 +61,10 @@ fn add_adapter(
     alloc: Global,
     adapters: &mut Seq<NamedModule>,
     given: &Given,
-) -> Result<(), AllocError> {
+) -> Result<(), AllocError>
+    ensures { OnOk result
+        (adapters.new ≡ adapters.old ++ option_to_list (spec.as_adapter given.now)) }
+{
     if let Some(adapter) = &given.adapter {
         let name = adapter.clone(alloc)?;
         let bytes = given.bytes.clone(alloc)?;
@@ -65,7 +73,9 @@ fn add_adapter(
     Ok(())
 }
 
-fn adapters_of(alloc: Global, given: &[Given]) -> Result<Seq<NamedModule>, AllocError> {
+fn adapters_of(alloc: Global, given: &[Given]) -> Result<Seq<NamedModule>, AllocError>
+    ensures { IfOk result (λ ms. ms ≡ filter_map spec.as_adapter given.now) }
+{
     let mut adapters = Seq::new(alloc);
     for one in given {
         add_adapter(alloc, &mut adapters, one)?;
@@ -74,7 +84,9 @@ fn adapters_of(alloc: Global, given: &[Given]) -> Result<Seq<NamedModule>, Alloc
 }
 
 /// The modules to find warnings of; none where nothing was read.
-pub(crate) fn modules_of(alloc: Global, given: &[Given]) -> Result<Option<Modules>, AllocError> {
+pub(crate) fn modules_of(alloc: Global, given: &[Given]) -> Result<Option<Modules>, AllocError>
+    ensures { IfOk result (λ m. m ≡ spec.modules_of given.now) }
+{
     match given {
         [] => Ok(None),
         [main, _adapters @ ..] => {

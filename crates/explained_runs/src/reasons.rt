@@ -45,6 +45,7 @@ pub(crate) fn reason_line(reason: Reason) -> &'static str
         Reason::NotFolder => "  a part of the path in front of the name is no folder\n",
         Reason::Full => "  there is no room on the device\n",
         Reason::ReadOnly => "  nothing can be written there: the file system is read-only\n",
-        Reason::Other => "  the system doesn't say why; see the permissions, and the room on the device\n",
+        Reason::Other =>
+            "  the system doesn't say why; see the permissions, and the room on the device\n",
     }
 }

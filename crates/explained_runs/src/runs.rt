@@ -1,9 +1,11 @@
 //! A run that says more than its fault.
 
-ghost use Rattle.std.specs.Prelude.{◌≡◌, ◌≢◌, false, map, string_bytes};
+ghost use Rattle.std.specs.Prelude.{◌≡◌, ◌≢◌, map, string_bytes, IfOk};
 ghost use Rattle.atomic_files.specs.Files.{Known};
 ghost use Rattle.atomic_files.specs.Steps.{Kept as KeptFiles};
-ghost use Rattle.explained_runs.specs.Runs.{RanAsked, StartedAsked, SaysMore};
+ghost use Rattle.command_line.specs.Starting.{first_not_text};
+ghost use Rattle.explained_runs.specs.Advice.{IsNeeded, IsWarning};
+ghost use Rattle.explained_runs.specs.Runs.{If, IsMore, RanBeside, StartedBeside, SaysMore, fresh};
 
 use crate::advice::advice_of;
 use crate::asked::{Asked, take_asked};
@@ -11,10 +13,11 @@ use crate::kept::{Kept, KeptFile};
 use crate::modules::{given_of, modules_of};
 use crate::reasons::Reasons;
 use command_line::{
-    MEMORY, RunFault, Store, WordsFault, adapters, is_listing, perform, report, say,
-    say_not_text, status_of, words_of,
+    MEMORY, RunFault, Store, WordsFault, adapters, is_listing, perform, report, say, say_not_text,
+    status_of, words_of,
 };
 use comp_lists::Seq;
+use comp_worlds::Lower;
 use fault_advice::Given;
 use module_warnings::warnings_text;
 use package_lower::{LowerFault, PackageLower};
@@ -22,7 +25,9 @@ use std::alloc::{AllocError, Global};
 use std::io::Write;
 
 /// The warnings of modules, where all that they say can be read.
-fn warnings_of(alloc: Global, given: &[Given]) -> Result<String, AllocError> {
+fn warnings_of(alloc: Global, given: &[Given]) -> Result<String, AllocError>
+    ensures { IfOk result (λ text. IsWarning given.now (string_bytes text)) }
+{
     let Some(modules) = modules_of(alloc, given)? else {
         return Ok(String::new(alloc));
     };
@@ -39,10 +44,41 @@ fn needed<R: Reasons>(
     given: Seq<Given>,
     reasons: &mut R,
     done: &Result<(), RunFault<LowerFault>>,
-) -> Result<String, AllocError> {
+) -> Result<String, AllocError>
+    ensures { IfOk result
+        (λ text. IsNeeded (map string_bytes words.now) given done.now (string_bytes text)) }
+{
     match done {
         Ok(()) => Ok(String::new(alloc)),
         Err(fault) => advice_of(alloc, words, given, reasons, fault),
+    }
+}
+
+fn warnings_if(alloc: Global, asked: Asked, given: &[Given]) -> Result<String, AllocError>
+    ensures { IfOk result (λ text. If asked.lints (IsWarning given.now) (string_bytes text)) }
+{
+    if asked.lints {
+        warnings_of(alloc, given)
+    } else {
+        Ok(String::new(alloc))
+    }
+}
+
+fn needed_if<R: Reasons>(
+    alloc: Global,
+    asked: Asked,
+    words: &[String],
+    given: Seq<Given>,
+    reasons: &mut R,
+    done: &Result<(), RunFault<LowerFault>>,
+) -> Result<String, AllocError>
+    ensures { IfOk result (λ text. If asked.explains
+        (IsNeeded (map string_bytes words.now) given done.now) (string_bytes text)) }
+{
+    if asked.explains {
+        needed(alloc, words, given, reasons, done)
+    } else {
+        Ok(String::new(alloc))
     }
 }
 
@@ -54,19 +90,14 @@ fn more_of<R: Reasons>(
     files: Seq<KeptFile>,
     reasons: &mut R,
     done: &Result<(), RunFault<LowerFault>>,
-) -> Result<String, AllocError> {
+) -> Result<String, AllocError>
+    ensures { IfOk result
+        (λ text. IsMore asked (map string_bytes words.now) files done.now (string_bytes text)) }
+{
     let named = adapters(alloc, words)?;
     let given = given_of(alloc, files, named.as_slice())?;
-    let warnings = if asked.lints {
-        warnings_of(alloc, given.as_slice())?
-    } else {
-        String::new(alloc)
-    };
-    let mut more = if asked.explains {
-        needed(alloc, words, given, reasons, done)?
-    } else {
-        String::new(alloc)
-    };
+    let warnings = warnings_if(alloc, asked, given.as_slice())?;
+    let mut more = needed_if(alloc, asked, words, given, reasons, done)?;
     more.push_str(warnings.as_str())?;
     Ok(more)
 }
@@ -81,13 +112,15 @@ fn say_more<R: Reasons, E: Write>(
     done: &Result<(), RunFault<LowerFault>>,
     err: &mut E,
 )
-    ensures { SaysMore asked (E.contents err.old) (E.contents err.new) }
+    ensures { SaysMore asked (map string_bytes words.now) files done.now (E.contents err.old)
+        (E.contents err.new) }
 {
     if !asked.explains && !asked.lints {
         return;
     }
-    if let Ok(text) = more_of(alloc, asked, words, files, reasons, done) {
-        say(err, text.as_bytes());
+    match more_of(alloc, asked, words, files, reasons, done) {
+        Ok(text) => say(err, text.as_bytes()),
+        Err(_) => {}
     }
 }
 
@@ -100,7 +133,7 @@ fn run_asked<S: Store, R: Reasons, W: Write, E: Write>(
     out: &mut W,
     err: &mut E,
 ) -> u8
-    ensures ran { RanAsked (map string_bytes words.items) (S.events store.old.store)
+    ensures ran { RanBeside ⟦<PackageLower as Lower>⟧ fresh (map string_bytes words.items) (S.events store.old.store)
         (S.events store.new.store) (W.contents out.old) (W.contents out.new)
         (E.contents err.old) (E.contents err.new) result }
     ensures files { result ≢ 0
@@ -126,8 +159,8 @@ pub fn start<S: Store, R: Reasons, W: Write, E: Write>(
     out: &mut W,
     err: &mut E,
 ) -> u8
-    ensures started { StartedAsked (map (λ a. a.items) arguments.now) (S.events store.old.store)
-        (S.events store.new.store) (W.contents out.old) (W.contents out.new)
+    ensures started { StartedBeside ⟦<PackageLower as Lower>⟧ (first_not_text 1 (map (λ a. a.items) arguments.now)) fresh
+        (map (λ a. a.items) arguments.now) (S.events store.old.store) (S.events store.new.store) (W.contents out.old) (W.contents out.new)
         (E.contents err.old) (E.contents err.new) result }
     ensures files { result ≢ 0
         → Known KeptFiles (S.files store.old.store) (S.files store.new.store) }

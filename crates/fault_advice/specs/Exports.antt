@@ -1,10 +1,10 @@
 -- Functions that a module has to export, and which core export is to be each of them. (The program's own lines.)
-use Rattle.std.specs.Prelude.{ℕ, Bool, true, false, not, ◌||◌, is_some, List, [], ◌∷◌, ◌++◌, find, codes, Option, Some, None, if◌then◌else◌}
+use Rattle.std.specs.Prelude.{ℕ, Bool, true, false, not, ◌&&◌, ◌||◌, is_some, List, [], ◌∷◌, ◌++◌, codes, Option, Some, None, if◌then◌else◌}
 use Rattle.std.specs.List.{list_any}
 use Rattle.std.specs.Map.{lookup}
 use Rattle.std.specs.Option.{option_and_then, option_or}
 use Rattle.std.specs.Str.{bytes_eq}
-use Rattle.comp_lists.specs.Tables.{with_first, keys_of}
+use Rattle.comp_lists.specs.Tables.{with_first}
 use Rattle.core_sections.specs.declared.core_module.CoreModule.{CoreModule}
 use Rattle.core_sections.specs.declared.entries.ExportedItem.{ExportedItem}
 use Rattle.record_values.specs.declared.names.InterfaceName.{InterfaceName}
@@ -103,24 +103,30 @@ front_of (record { owner = owners.World; name = name }) = []
 abbrev pub expected_name : TypeName → List ℕ
 expected_name function = front_of function ++ function.name
 
-abbrev pub near_field : List (List ℕ × ExportedItem) → List ℕ → List ℕ
-near_field exports name = near_end (find (is_near name) (keys_of exports))
+-- the first core export without a role that is close to a name
+abbrev pub near_free : List (List ℕ × ExportedItem) → List (List ℕ × ExportRole) → List ℕ → Option (List ℕ)
+near_free [] roles name = None
+near_free (e ∷ es) roles name =
+    if not (is_some (lookup (bytes_eq e.0) roles)) && is_near name e.0 then Some e.0 else near_free es roles name
 
-abbrev pub lacking : List (List ℕ × ExportedItem) → List ℕ → List ℕ
-lacking exports field = about (codes "  its role is given to ") field ++ codes ", which the module doesn't export" ++ near_field exports field
+abbrev pub near_field : Read → List ℕ → List ℕ
+near_field r name = near_end (near_free r.core.exports r.said.roles.export_roles name)
 
-abbrev pub no_field : List (List ℕ × ExportedItem) → TypeName → List ℕ
-no_field exports function = codes "  no core export has its role" ++ near_field exports (expected_name function)
+abbrev pub lacking : Read → List ℕ → List ℕ
+lacking r field = about (codes "  its role is given to ") field ++ codes ", which the module doesn't export" ++ near_field r field
 
-abbrev pub unmet : List (List ℕ × ExportedItem) → Option (List ℕ) → TypeName → List ℕ
-unmet exports (Some field) function = lacking exports field
-unmet exports None function = no_field exports function
+abbrev pub no_field : Read → TypeName → List ℕ
+no_field r function = codes "  no core export has its role" ++ near_field r (expected_name function)
+
+abbrev pub unmet : Read → Option (List ℕ) → TypeName → List ℕ
+unmet r (Some field) function = lacking r field
+unmet r None function = no_field r function
 
 abbrev pub missing_text : Known → Read → Option TypeName → Option (List ℕ)
 missing_text k r None = None
 missing_text k r (Some function) =
     Some (place_line k.given ++ function_line (codes " has to be exported") function
-    ++ unmet r.core.exports (lookup (is_same_type function) (fields_after [] r.said.roles.export_roles)) function)
+    ++ unmet r (lookup (is_same_type function) (fields_after [] r.said.roles.export_roles)) function)
 
 -- what a function of a module lacks that has no core export
 abbrev pub missing_in : Known → Read → List ℕ → Option (List ℕ)

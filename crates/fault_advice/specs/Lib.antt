@@ -8,4 +8,5 @@ pub mod Exports
 pub mod Places
 pub mod Types
 pub mod Required
+pub mod Unfit
 pub mod Advice

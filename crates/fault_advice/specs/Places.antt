@@ -1,10 +1,9 @@
 -- Memories and reallocs that are missing: what needs one, by the place of the fault (docs/ERRORS.md, at E7), and what is there
 -- instead. (The program's own lines.)
-use Rattle.std.specs.Prelude.{ℕ, Bool, true, false, not, ◌&&◌, ◌||◌, is_some, List, [], ◌∷◌, ◌++◌, find, filter_map, codes, Option, Some, None, if◌then◌else◌}
+use Rattle.std.specs.Prelude.{ℕ, Bool, true, false, not, ◌&&◌, ◌||◌, is_some, List, [], ◌∷◌, ◌++◌, find, codes, Option, Some, None, if◌then◌else◌}
 use Rattle.std.specs.Map.{lookup}
 use Rattle.std.specs.Option.{option_and_then, option_or}
 use Rattle.std.specs.Str.{bytes_eq}
-use Rattle.comp_lists.specs.Tables.{keys_of}
 use Rattle.core_sections.specs.declared.entries.CoreImport.{CoreImport}
 use Rattle.core_sections.specs.declared.entries.EntityType.TheVariants as entities
 use Rattle.core_sections.specs.declared.entries.ExportedItem.{ExportedItem}
@@ -15,10 +14,9 @@ use Rattle.record_values.specs.declared.roles.ExportRole.TheVariants as roles
 use Rattle.record_values.specs.declared.roles.PlainExport.TheVariants as plain
 use Rattle.core_sections.specs.declared.core_module.CoreModule.{CoreModule}
 use Rattle.record_values.specs.declared.names.TypeName.{TypeName}
-use Rattle.fault_advice.specs.Exports.{exported, fields_after, function_line}
+use Rattle.fault_advice.specs.Exports.{exported, fields_after, function_line, near_field}
 use Rattle.fault_advice.specs.Given.{is_main, place_line}
-use Rattle.fault_advice.specs.Lines.{about, near_end, pair, first_text}
-use Rattle.fault_advice.specs.Near.{is_near}
+use Rattle.fault_advice.specs.Lines.{about, pair, first_text}
 use Rattle.fault_advice.specs.declared.given.Known.{Known}
 use Rattle.fault_advice.specs.declared.given.Read.{Read}
 use Rattle.fault_advice.specs.declared.places.Missing.{Missing}
@@ -91,9 +89,8 @@ abbrev pub words_of : Missing → List ℕ
 words_of missing.Memory = codes "the memory"
 words_of missing.Realloc = codes "a realloc"
 
-abbrev pub vain_line : Missing → List (List ℕ × ExportedItem) → List ℕ → List ℕ
-vain_line m exports field =
-    codes "  the role of " ++ words_of m ++ about (codes " is given to ") field ++ codes ", which isn't exported" ++ near_end (find (is_near field) (keys_of exports))
+abbrev pub vain_line : Missing → Read → List ℕ → List ℕ
+vain_line m r field = codes "  the role of " ++ words_of m ++ about (codes " is given to ") field ++ codes ", which isn't exported" ++ near_field r field
 
 abbrev pub spare_end : Option (List ℕ) → List ℕ
 spare_end None = codes "\n"
@@ -103,7 +100,7 @@ abbrev pub spare_line : Missing → Option (List ℕ) → List ℕ
 spare_line m spare = codes "  no core export of it has the role of " ++ words_of m ++ spare_end spare
 
 abbrev pub unless_vain : Option (List ℕ) → Missing → Read → List ℕ
-unless_vain (Some field) m r = vain_line m r.core.exports field
+unless_vain (Some field) m r = vain_line m r field
 unless_vain None m r = spare_line m (spare_field m r.core.exports r.said.roles.export_roles)
 
 -- what a module has in the place of what is missing

@@ -1,5 +1,11 @@
 //! The advice of a fault.
 
+ghost use Rattle.std.specs.Prelude.{◌≡◌, ◌++◌, string_bytes, IfOk, OnOk};
+ghost use Rattle.std.specs.Option.{option_copied};
+ghost use Rattle.fault_advice.specs.Advice.{refused, refused_line, not_module_lines, conflict_lines, import_name, AddsPlain, AddsLower, IsLowerAdvice, IsPlainAdvice, IsPlaceAdvice, module_line, file_lines};
+ghost use Rattle.fault_advice.specs.Imports.{import_lines, taking_line};
+ghost use Rattle.fault_advice.specs.Lines.{Adds};
+
 use crate::exports::put_missing as put_missing_function;
 use crate::given::{Given, Known, is_named, known_of, put_place, refused};
 use crate::imports::{put_import, put_taking};
@@ -16,14 +22,20 @@ use std::alloc::{AllocError, Global};
 // ---- of a module that can't be read
 
 /// Where the module is that can't be read.
-fn put_refused(out: &mut String, known: &[Known]) -> Result<(), AllocError> {
+fn put_refused(out: &mut String, known: &[Known]) -> Result<(), AllocError>
+    ensures { OnOk result (string_bytes out.new
+        ≡ string_bytes out.old ++ refused_line (refused known.now)) }
+{
     match refused(known) {
         Some(one) => put_place(out, &one.given),
         None => Ok(()),
     }
 }
 
-fn put_not_module(out: &mut String, known: &[Known]) -> Result<(), AllocError> {
+fn put_not_module(out: &mut String, known: &[Known]) -> Result<(), AllocError>
+    ensures { OnOk result (string_bytes out.new
+        ≡ string_bytes out.old ++ not_module_lines (refused known.now)) }
+{
     match refused(known) {
         Some(one) => {
             put_place(out, &one.given)?;
@@ -33,7 +45,10 @@ fn put_not_module(out: &mut String, known: &[Known]) -> Result<(), AllocError> {
     }
 }
 
-fn put_json(alloc: Global, out: &mut String, known: &[Known]) -> Result<(), AllocError> {
+fn put_json(alloc: Global, out: &mut String, known: &[Known]) -> Result<(), AllocError>
+    ensures { OnOk result (Adds (string_bytes out.old ++ refused_line (refused known.now))
+        (string_bytes out.new)) }
+{
     match refused(known) {
         Some(one) => {
             put_place(out, &one.given)?;
@@ -48,7 +63,10 @@ fn put_record(
     out: &mut String,
     known: &[Known],
     path: &Text,
-) -> Result<(), AllocError> {
+) -> Result<(), AllocError>
+    ensures { OnOk result (Adds (string_bytes out.old ++ refused_line (refused known.now))
+        (string_bytes out.new)) }
+{
     match refused(known) {
         Some(one) => {
             put_place(out, &one.given)?;
@@ -58,19 +76,28 @@ fn put_record(
     }
 }
 
-fn put_conflict(out: &mut String, known: &[Known]) -> Result<(), AllocError> {
+fn put_conflict(out: &mut String, known: &[Known]) -> Result<(), AllocError>
+    ensures { OnOk result (string_bytes out.new
+        ≡ string_bytes out.old ++ conflict_lines (refused known.now)) }
+{
     match refused(known) {
         Some(one) => {
             put_place(out, &one.given)?;
-            out.push_str("  two sections of it, or two lines of its record, say different things of one name\n")
+            out.push_str(
+                "  two sections of it, or two lines of its record, say different things of one name\n",
+            )
         }
-        None => out.push_str("  main and the adapters, taken together, say different things of it\n"),
+        None => out.push_str(
+            "  main and the adapters, taken together, say different things of it\n",
+        ),
     }
 }
 
 // ---- of a core import
 
-fn name_of(alloc: Global, module: &Text, field: &Text) -> Result<ImportName, AllocError> {
+fn name_of(alloc: Global, module: &Text, field: &Text) -> Result<ImportName, AllocError>
+    ensures { IfOk result (λ n. n ≡ import_name module.now field.now) }
+{
     let module = module.clone(alloc)?;
     let field = field.clone(alloc)?;
     Ok(ImportName { module, field })
@@ -82,7 +109,10 @@ fn put_role_missing(
     known: &[Known],
     module: &Text,
     field: &Text,
-) -> Result<(), AllocError> {
+) -> Result<(), AllocError>
+    ensures { OnOk result (string_bytes out.new
+        ≡ string_bytes out.old ++ import_lines known.now (import_name module.now field.now)) }
+{
     let name = name_of(alloc, module, field)?;
     put_import(out, known, &name)
 }
@@ -93,7 +123,10 @@ fn put_import_twice(
     known: &[Known],
     module: &Text,
     field: &Text,
-) -> Result<(), AllocError> {
+) -> Result<(), AllocError>
+    ensures { OnOk result (string_bytes out.new
+        ≡ string_bytes out.old ++ taking_line known.now (import_name module.now field.now)) }
+{
     let name = name_of(alloc, module, field)?;
     put_taking(out, known, &name)
 }
@@ -105,7 +138,10 @@ fn put_plain(
     out: &mut String,
     known: &[Known],
     fault: &PlainFault,
-) -> Result<(), AllocError> {
+) -> Result<(), AllocError>
+    ensures { OnOk result
+        (AddsPlain known.now fault.now (string_bytes out.old) (string_bytes out.new)) }
+{
     match fault {
         PlainFault::Memory => Ok(()),
         PlainFault::NotModule => put_not_module(out, known),
@@ -134,7 +170,10 @@ fn put_lower(
     out: &mut String,
     known: &[Known],
     fault: &LowerFault,
-) -> Result<(), AllocError> {
+) -> Result<(), AllocError>
+    ensures { OnOk result
+        (AddsLower known.now fault.now (string_bytes out.old) (string_bytes out.new)) }
+{
     match fault {
         LowerFault::Plain(fault) => put_plain(alloc, out, known, fault),
         LowerFault::Package { .. } => put_refused(out, known),
@@ -148,7 +187,9 @@ pub fn lower_advice(
     alloc: Global,
     given: Seq<Given>,
     fault: &LowerFault,
-) -> Result<String, AllocError> {
+) -> Result<String, AllocError>
+    ensures { IfOk result (λ text. IsLowerAdvice given fault.now (string_bytes text)) }
+{
     let known = known_of(alloc, given)?;
     let mut out = String::new(alloc);
     put_lower(alloc, &mut out, known.as_slice(), fault)?;
@@ -162,7 +203,9 @@ pub fn place_advice(
     given: Seq<Given>,
     missing: Missing,
     place: &str,
-) -> Result<String, AllocError> {
+) -> Result<String, AllocError>
+    ensures { IfOk result (λ text. IsPlaceAdvice given missing place.now (string_bytes text)) }
+{
     let known = known_of(alloc, given)?;
     let mut out = String::new(alloc);
     put_missing(alloc, &mut out, missing, known.as_slice(), place)?;
@@ -174,7 +217,9 @@ pub fn plain_advice(
     alloc: Global,
     given: Seq<Given>,
     fault: &PlainFault,
-) -> Result<String, AllocError> {
+) -> Result<String, AllocError>
+    ensures { IfOk result (λ text. IsPlainAdvice given fault.now (string_bytes text)) }
+{
     let known = known_of(alloc, given)?;
     let mut out = String::new(alloc);
     put_plain(alloc, &mut out, known.as_slice(), fault)?;
@@ -186,7 +231,10 @@ pub fn module_advice(
     alloc: Global,
     given: &[Given],
     adapter: Option<&Text>,
-) -> Result<String, AllocError> {
+) -> Result<String, AllocError>
+    ensures { IfOk result
+        (λ text. string_bytes text ≡ module_line given.now (option_copied adapter.entry)) }
+{
     let mut out = String::new(alloc);
     for one in given {
         if is_named(one, adapter) {
@@ -198,7 +246,9 @@ pub fn module_advice(
 }
 
 /// What a file is that was not taken: the line that says where it is, and one that says what it is.
-pub fn file_advice(alloc: Global, given: &Given) -> Result<String, AllocError> {
+pub fn file_advice(alloc: Global, given: &Given) -> Result<String, AllocError>
+    ensures { IfOk result (λ text. string_bytes text ≡ file_lines given.now) }
+{
     let mut out = String::new(alloc);
     put_place(&mut out, given)?;
     out.push_str(kind_line(given.bytes.as_slice()))?;

@@ -8,7 +8,7 @@ ghost use Rattle.fault_advice.specs.Lines.{PutsIf, first_text};
 
 use crate::given::{Known, Read, put_place};
 use crate::lines::{put_about, put_near_end};
-use crate::near::near_key;
+use crate::near::is_near;
 use comp_lists::{Keyed, Text, TryClone};
 use core_sections::{CoreModule, ExportedItem};
 use record_values::{ExportRole, Func, InterfaceName, Item, ItemKey, Owner, TypeName, Wit};
@@ -17,7 +17,6 @@ use wit_data::AbiVariant;
 
 /// The core export that is each function, by the function's owner and name.
 pub(crate) type Fields = Keyed<TypeName, Text>;
-
 
 // ---- tables
 
@@ -204,7 +203,11 @@ pub(crate) fn put_function(
 {
     put_about(out, "  the function ", function.name.as_str())?;
     match &function.owner {
-        Owner::Interface(interface) => put_about(out, " of the exported interface ", interface.text())?,
+        Owner::Interface(interface) => put_about(
+            out,
+            " of the exported interface ",
+            interface.text(),
+        )?,
         Owner::World => out.push_str(" that the world exports")?,
     }
     out.push_str(words)?;
@@ -225,18 +228,39 @@ fn expected_name(alloc: Global, function: &TypeName) -> Result<String, AllocErro
     Ok(name)
 }
 
-/// That the core export that has the role of a function isn't there.
-fn put_lacking(
-    out: &mut String,
-    exports: &Keyed<Text, ExportedItem>,
-    field: &Text,
-) -> Result<(), AllocError>
+/// The first core export without a role that is close to a name.
+fn near_free<'a>(
+    exports: &'a Keyed<Text, ExportedItem>,
+    roles: &Keyed<Text, ExportRole>,
+    name: &str,
+) -> Option<&'a Text>
+    ensures { option_copied result ≡ spec.near_free exports.now roles.now name.now }
+{
+    for (export, _) in exports.iter() {
+        if !roles.contains_key(export) && is_near(name, export.as_str()) {
+            return Some(export);
+        }
+    }
+    None
+}
+
+/// Ends a line, with the core export without a role that is nearest to a name.
+pub(crate) fn put_near_free(out: &mut String, read: &Read, name: &str) -> Result<(), AllocError>
     ensures { OnOk result (string_bytes out.new
-        ≡ string_bytes out.old ++ spec.lacking exports.now field.now) }
+        ≡ string_bytes out.old ++ spec.near_field read.now name.now) }
+{
+    let near = near_free(&read.core.exports, &read.said.roles.export_roles, name);
+    put_near_end(out, near)
+}
+
+/// That the core export that has the role of a function isn't there.
+fn put_lacking(out: &mut String, read: &Read, field: &Text) -> Result<(), AllocError>
+    ensures { OnOk result (string_bytes out.new
+        ≡ string_bytes out.old ++ spec.lacking read.now field.now) }
 {
     put_about(out, "  its role is given to ", field.as_str())?;
     out.push_str(", which the module doesn't export")?;
-    put_near_end(out, near_key(exports, field.as_str()))?;
+    put_near_free(out, read, field.as_str())?;
     Ok(())
 }
 
@@ -244,15 +268,15 @@ fn put_lacking(
 fn put_no_field(
     alloc: Global,
     out: &mut String,
-    exports: &Keyed<Text, ExportedItem>,
+    read: &Read,
     function: &TypeName,
 ) -> Result<(), AllocError>
     ensures { OnOk result (string_bytes out.new
-        ≡ string_bytes out.old ++ spec.no_field exports.now function.now) }
+        ≡ string_bytes out.old ++ spec.no_field read.now function.now) }
 {
     let expected = expected_name(alloc, function)?;
     out.push_str("  no core export has its role")?;
-    put_near_end(out, near_key(exports, expected.as_str()))?;
+    put_near_free(out, read, expected.as_str())?;
     Ok(())
 }
 
@@ -260,16 +284,16 @@ fn put_no_field(
 fn put_unmet(
     alloc: Global,
     out: &mut String,
-    exports: &Keyed<Text, ExportedItem>,
+    read: &Read,
     field: Option<&Text>,
     function: &TypeName,
 ) -> Result<(), AllocError>
     ensures { OnOk result (string_bytes out.new ≡ string_bytes out.old
-        ++ spec.unmet exports.now (option_copied field.entry) function.now) }
+        ++ spec.unmet read.now (option_copied field.entry) function.now) }
 {
     match field {
-        Some(field) => put_lacking(out, exports, field),
-        None => put_no_field(alloc, out, exports, function),
+        Some(field) => put_lacking(out, read, field),
+        None => put_no_field(alloc, out, read, function),
     }
 }
 
@@ -290,7 +314,7 @@ fn put_missing_in(
     };
     put_place(out, &known.given)?;
     put_function(out, " has to be exported", &function)?;
-    put_unmet(alloc, out, &read.core.exports, fields.get(&function), &function)?;
+    put_unmet(alloc, out, read, fields.get(&function), &function)?;
     Ok(true)
 }
 
@@ -310,7 +334,11 @@ fn put_callback_in(
         return Ok(false);
     };
     put_place(out, &known.given)?;
-    put_function(out, " has no callback: no core export that is there has that role", &function)?;
+    put_function(
+        out,
+        " has no callback: no core export that is there has that role",
+        &function,
+    )?;
     Ok(true)
 }
 

@@ -4,15 +4,20 @@ ghost use Rattle.std.specs.Prelude.{◌≡◌};
 ghost use Rattle.fault_advice.specs.Kinds.{kind_line};
 
 const EMPTY: &str = "  the file is empty\n";
+
 const MODULE: &str = "  the file is a core module\n";
+
 const COMPONENT: &str = "  the file is a component, and no core module\n";
-const OTHER_VERSION: &str = "  the file begins as a core module, and is of another version or cut short\n";
+
+const OTHER_VERSION: &str =
+    "  the file begins as a core module, and is of another version or cut short\n";
+
 const TEXT: &str = "  the file is text: compile it to a core module in binary form first\n";
+
 const OTHER: &str = "  the file doesn't begin as a core module in binary form\n";
 
 /// Whether a byte begins a text: a blank, a line's end, or a visible character of ASCII.
-fn begins_text(byte: u8) -> bool
-{
+fn begins_text(byte: u8) -> bool {
     byte == 9 || byte == 10 || byte == 13 || (byte >= 32 && byte < 127)
 }
 

@@ -85,10 +85,7 @@ pub(crate) fn is_near(word: &str, name: &str) -> bool
 }
 
 /// The first of these words that is close to a word.
-pub(crate) fn near_word(
-    words: &'static [&'static str],
-    word: &str,
-) -> Option<&'static str>
+pub(crate) fn near_word(words: &'static [&'static str], word: &str) -> Option<&'static str>
     ensures { option_map (λ t. t.now) result ≡ find (is_near word.now) (map (λ x. x.now) words.now) }
 {
     for other in words {

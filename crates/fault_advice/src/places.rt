@@ -5,10 +5,9 @@ ghost use Rattle.std.specs.Option.{option_copied};
 ghost use Rattle.fault_advice.specs.Lines.{PutsIf, first_text};
 ghost use Rattle.fault_advice.specs.Places as spec;
 
-use crate::exports::{exported, fields_of, put_function};
+use crate::exports::{exported, fields_of, put_function, put_near_free};
 use crate::given::{Known, Read, main_of, put_place};
-use crate::lines::{put_about, put_near_end, put_pair};
-use crate::near::near_key;
+use crate::lines::{put_about, put_pair};
 use comp_lists::{Keyed, Text};
 use core_sections::{CoreImport, CoreModule, EntityType, ExportedItem};
 use name_parts::after;
@@ -141,29 +140,20 @@ fn words_of(missing: Missing) -> &'static str
 }
 
 /// That a core export has the role of what is missing, and isn't there.
-fn put_vain(
-    out: &mut String,
-    missing: Missing,
-    exports: &Keyed<Text, ExportedItem>,
-    field: &Text,
-) -> Result<(), AllocError>
+fn put_vain(out: &mut String, missing: Missing, read: &Read, field: &Text) -> Result<(), AllocError>
     ensures { OnOk result (string_bytes out.new
-        ≡ string_bytes out.old ++ spec.vain_line missing exports.now field.now) }
+        ≡ string_bytes out.old ++ spec.vain_line missing read.now field.now) }
 {
     out.push_str("  the role of ")?;
     out.push_str(words_of(missing))?;
     put_about(out, " is given to ", field.as_str())?;
     out.push_str(", which isn't exported")?;
-    put_near_end(out, near_key(exports, field.as_str()))?;
+    put_near_free(out, read, field.as_str())?;
     Ok(())
 }
 
 /// That nothing has the role of what is missing, and which core export could have it.
-fn put_spare(
-    out: &mut String,
-    missing: Missing,
-    spare: Option<&Text>,
-) -> Result<(), AllocError>
+fn put_spare(out: &mut String, missing: Missing, spare: Option<&Text>) -> Result<(), AllocError>
     ensures { OnOk result (string_bytes out.new
         ≡ string_bytes out.old ++ spec.spare_line missing (option_copied spare.entry)) }
 {
@@ -184,7 +174,7 @@ fn put_instead(out: &mut String, missing: Missing, read: &Read) -> Result<(), Al
     let exports = &read.core.exports;
     let roles = &read.said.roles.export_roles;
     match vain_field(missing, exports, roles) {
-        Some(field) => put_vain(out, missing, exports, field),
+        Some(field) => put_vain(out, missing, read, field),
         None => put_spare(out, missing, spare_field(missing, exports, roles)),
     }
 }
@@ -221,7 +211,11 @@ fn put_main(out: &mut String, missing: Missing, known: &[Known]) -> Result<(), A
 {
     match main_of(known) {
         Some(main) => {
-            put_about(out, "  the memory is that of main, in ", main.given.file.as_str())?;
+            put_about(
+                out,
+                "  the memory is that of main, in ",
+                main.given.file.as_str(),
+            )?;
             out.push_str("\n")?;
             put_if_read(out, missing, main)
         }
@@ -245,7 +239,12 @@ fn put_import_in(
         return Ok(false);
     };
     put_place(out, &one.given)?;
-    put_pair(out, "  the core import ", import.module.as_str(), import.field.as_str())?;
+    put_pair(
+        out,
+        "  the core import ",
+        import.module.as_str(),
+        import.field.as_str(),
+    )?;
     out.push_str(" needs it\n")?;
     put_owner(out, missing, known, one)?;
     Ok(true)

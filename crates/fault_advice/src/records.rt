@@ -1,4 +1,8 @@
 //! Places in the record of a module.
+#![tactic(auto, using(crate::proofs::Adding::adding))]
+
+ghost use Rattle.std.specs.Prelude.{string_bytes, OnOk};
+ghost use Rattle.fault_advice.specs.Lines.{Adds};
 
 use crate::lines::put_about;
 use crate::near::{is_near, near_word};
@@ -141,7 +145,9 @@ fn near_quoted<'a>(record: &'a str, word: &str) -> Option<&'a str> {
 }
 
 /// Ends a line, with a text that is close to a word: one of records, or else one that the record has.
-fn put_word_end(out: &mut String, record: &str, word: &str) -> Result<(), AllocError> {
+fn put_word_end(out: &mut String, record: &str, word: &str) -> Result<(), AllocError>
+    ensures { OnOk result (Adds (string_bytes out.old) (string_bytes out.new)) }
+{
     if let Some(near) = near_word(WORDS, word) {
         put_about(out, "; the nearest word of records is ", near)?;
         return out.push_str("\n");
@@ -160,8 +166,31 @@ fn last_of(path: &str) -> &str {
     }
 }
 
-fn put_last(out: &mut String, path: &str) -> Result<(), AllocError> {
-    let last = last_of(path);
+/// Whether a word is one of records.
+fn is_known(word: &str) -> bool {
+    for other in WORDS {
+        if word == *other {
+            return true;
+        }
+    }
+    false
+}
+
+/// Whether a part of a path is the name of a member, and no index.
+fn is_member(part: &str) -> bool {
+    match part.as_bytes() {
+        [] => false,
+        [first, _rest @ ..] => !first.is_ascii_digit(),
+    }
+}
+
+/// Adds the line of a member that no record has, where the name of one is close.
+fn put_last(out: &mut String, last: &str) -> Result<(), AllocError>
+    ensures { OnOk result (Adds (string_bytes out.old) (string_bytes out.new)) }
+{
+    if !is_member(last) || is_known(last) {
+        return Ok(());
+    }
     if let Some(near) = near_word(WORDS, last) {
         put_about(out, "  the member ", last)?;
         put_about(out, " is none of records; the nearest is ", near)?;
@@ -171,7 +200,14 @@ fn put_last(out: &mut String, path: &str) -> Result<(), AllocError> {
 }
 
 /// Adds what stands at a path of a record.
-fn put_value(out: &mut String, record: &str, path: &str, value: Option<&Value>) -> Result<(), AllocError> {
+fn put_value(
+    out: &mut String,
+    record: &str,
+    path: &str,
+    value: Option<&Value>,
+) -> Result<(), AllocError>
+    ensures { OnOk result (Adds (string_bytes out.old) (string_bytes out.new)) }
+{
     let Some(value) = value else {
         return put_missing(out, path);
     };
@@ -188,7 +224,9 @@ fn put_value(out: &mut String, record: &str, path: &str, value: Option<&Value>) 
     }
 }
 
-fn put_missing(out: &mut String, path: &str) -> Result<(), AllocError> {
+fn put_missing(out: &mut String, path: &str) -> Result<(), AllocError>
+    ensures { OnOk result (Adds (string_bytes out.old) (string_bytes out.new)) }
+{
     put_about(out, "  the member ", last_of(path))?;
     out.push_str(" is missing there\n")
 }
@@ -231,7 +269,9 @@ fn records_of<'a>(alloc: Global, module: &'a [u8]) -> Result<Vec<&'a [u8]>, Allo
 
 // ---- records that are no JSON
 
-fn put_line(out: &mut String, line: usize, column: usize) -> Result<(), AllocError> {
+fn put_line(out: &mut String, line: usize, column: usize) -> Result<(), AllocError>
+    ensures { OnOk result (Adds (string_bytes out.old) (string_bytes out.new)) }
+{
     out.push_str("  in the record, line ")?;
     put_number(out, line as u64)?;
     out.push_str(", column ")?;
@@ -241,7 +281,9 @@ fn put_line(out: &mut String, line: usize, column: usize) -> Result<(), AllocErr
 }
 
 /// Where a record is no JSON: the result is whether it is none.
-fn put_json(alloc: Global, out: &mut String, record: &[u8]) -> Result<bool, AllocError> {
+fn put_json(alloc: Global, out: &mut String, record: &[u8]) -> Result<bool, AllocError>
+    ensures { OnOk result (Adds (string_bytes out.old) (string_bytes out.new)) }
+{
     match Value::from_slice(alloc, record) {
         Ok(_) => Ok(false),
         Err(error) => match error.classify() {
@@ -259,7 +301,9 @@ pub(crate) fn put_json_place(
     alloc: Global,
     out: &mut String,
     module: &[u8],
-) -> Result<(), AllocError> {
+) -> Result<(), AllocError>
+    ensures { OnOk result (Adds (string_bytes out.old) (string_bytes out.new)) }
+{
     let records = records_of(alloc, module)?;
     for record in &records {
         if put_json(alloc, out, record)? {
@@ -272,9 +316,14 @@ pub(crate) fn put_json_place(
 // ---- values of records
 
 /// What stands at a path of a record, where that is JSON.
-fn put_at(alloc: Global, out: &mut String, record: &str, path: &str) -> Result<(), AllocError> {
+fn put_at(alloc: Global, out: &mut String, record: &str, path: &str) -> Result<(), AllocError>
+    ensures { OnOk result (Adds (string_bytes out.old) (string_bytes out.new)) }
+{
     match Value::from_slice(alloc, record.as_bytes()) {
-        Ok(value) => put_value(out, record, path, value.pointer(path)),
+        Ok(value) => {
+            put_last(out, last_of(path))?;
+            put_value(out, record, path, value.pointer(path))
+        }
         Err(error) => match error.classify() {
             Category::Memory => Err(AllocError),
             _ => Ok(()),
@@ -289,7 +338,9 @@ pub(crate) fn put_record_place(
     out: &mut String,
     module: &[u8],
     path: &str,
-) -> Result<(), AllocError> {
+) -> Result<(), AllocError>
+    ensures { OnOk result (Adds (string_bytes out.old) (string_bytes out.new)) }
+{
     let records = records_of(alloc, module)?;
     match records.as_slice() {
         [record] => match str::from_utf8(record) {

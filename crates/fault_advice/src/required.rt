@@ -246,11 +246,7 @@ pub(crate) fn required_import(
 }
 
 /// The type of a function of so many numbers of 32 bits.
-fn numbered(
-    alloc: Global,
-    params: usize,
-    results: usize,
-) -> Result<Option<FuncType>, AllocError>
+fn numbered(alloc: Global, params: usize, results: usize) -> Result<Option<FuncType>, AllocError>
     ensures { IfOk result (λ t. t ≡ Some (spec.of_numbers params results)) }
 {
     let ty = of_numbers(alloc, params, results)?;

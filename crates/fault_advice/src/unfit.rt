@@ -1,4 +1,12 @@
 //! Core imports and core exports whose types aren't those of their roles.
+#![tactic(auto, using(crate::proofs::Adding::adding))]
+
+ghost use Rattle.std.specs.Prelude.{◌≡◌, string_bytes, IfOk, IfSome, OnOk};
+ghost use Rattle.package_lower.specs.Roles.{import_name};
+ghost use Rattle.wit_data.specs.Sound.{IsSound};
+ghost use Rattle.world_values.specs.Mentions.{HasReturned};
+ghost use Rattle.fault_advice.specs.Lines.{Adds};
+ghost use Rattle.fault_advice.specs.Unfit.{IsValueOf};
 
 use crate::given::{Known, Read, adapter_of, main_of, put_place};
 use crate::lines::{put_about, put_pair};
@@ -7,8 +15,8 @@ use crate::types::{put_entity, put_exported, put_type};
 use comp_lists::Text;
 use comp_roles::{Export, Import};
 use core_sections::{CoreImport, CoreModule, ExportedItem, FuncType};
-use record_core_types::{extern_type, item_type};
 use json_paths::Failure;
+use record_core_types::{extern_type, item_type};
 use record_resolve::{Resolved, resolve};
 use record_role_targets::{ImportTargets, resolved_export};
 use record_values::{ExportRole, ImportName, ImportRole, PlainExport, Wit};
@@ -22,7 +30,9 @@ const WORLD: WorldId = WorldId { index: 0 };
 // ---- the world of a module
 
 /// A value, or none where it is refused.
-fn unless_refused<T: Drop>(made: Result<T, Failure>) -> Result<Option<T>, AllocError> {
+fn unless_refused<T: Drop>(made: Result<T, Failure>) -> Result<Option<T>, AllocError>
+    ensures { IfOk result (λ o. IsValueOf made o) }
+{
     match made {
         Ok(value) => Ok(Some(value)),
         Err(Failure::Memory) => Err(AllocError),
@@ -30,7 +40,10 @@ fn unless_refused<T: Drop>(made: Result<T, Failure>) -> Result<Option<T>, AllocE
     }
 }
 
-fn resolved_merged(alloc: Global, merged: &MergedVersions) -> Result<Option<Resolved>, AllocError> {
+/// The resolve of a world with merged versions.
+fn resolved_merged(alloc: Global, merged: &MergedVersions) -> Result<Option<Resolved>, AllocError>
+    ensures { IfOk result (λ o. IfSome o (λ r. IsSound r.resolve)) }
+{
     match unless_refused(resolve(alloc, &merged.wit))? {
         Some(resolved) => {
             let mut resolved = resolved;
@@ -42,7 +55,9 @@ fn resolved_merged(alloc: Global, merged: &MergedVersions) -> Result<Option<Reso
 }
 
 /// The resolve of what a module says alone.
-fn resolved_of(alloc: Global, wit: &Wit) -> Result<Option<Resolved>, AllocError> {
+fn resolved_of(alloc: Global, wit: &Wit) -> Result<Option<Resolved>, AllocError>
+    ensures { IfOk result (λ o. IfSome o (λ r. IsSound r.resolve)) }
+{
     match unless_refused(merge_versions(alloc, true, wit))? {
         Some(merged) => resolved_merged(alloc, &merged),
         None => Ok(None),
@@ -51,24 +66,34 @@ fn resolved_of(alloc: Global, wit: &Wit) -> Result<Option<Resolved>, AllocError>
 
 // ---- imports
 
-fn name_of(alloc: Global, import: &CoreImport) -> Result<ImportName, AllocError> {
+fn name_of(alloc: Global, import: &CoreImport) -> Result<ImportName, AllocError>
+    ensures { IfOk result (λ n. n ≡ import_name import.now) }
+{
     let module = import.module.clone(alloc)?;
     let field = import.field.clone(alloc)?;
     Ok(ImportName { module, field })
 }
 
+/// What an import was resolved to, where it is.
+#[tactic(auto, using(crate::proofs::Requiring::returned))]
 fn meaning_of(
     alloc: Global,
     core: &CoreModule,
     targets: &ImportTargets<'_>,
     import: &CoreImport,
     name: &ImportName,
-) -> Result<Option<Import>, AllocError> {
+) -> Result<Option<Import>, AllocError>
+    requires { IsSound targets.now.resolved.resolve }
+    ensures { IfOk result
+        (λ i. IfSome i (λ m. HasReturned targets.now.resolved.resolve m)) }
+{
     let ty = extern_type(alloc, core, &import.entity)?;
     targets.resolve(alloc, name, ty.as_ref())
 }
 
-fn put_type_if(out: &mut String, ty: Option<FuncType>) -> Result<(), AllocError> {
+fn put_type_if(out: &mut String, ty: Option<FuncType>) -> Result<(), AllocError>
+    ensures { OnOk result (Adds (string_bytes out.old) (string_bytes out.new)) }
+{
     match ty {
         Some(ty) => put_type(out, &ty),
         None => Ok(()),
@@ -76,11 +101,9 @@ fn put_type_if(out: &mut String, ty: Option<FuncType>) -> Result<(), AllocError>
 }
 
 /// Adds the type that a module's export has.
-fn put_export_type(
-    out: &mut String,
-    known: Option<&Known>,
-    name: &Text,
-) -> Result<(), AllocError> {
+fn put_export_type(out: &mut String, known: Option<&Known>, name: &Text) -> Result<(), AllocError>
+    ensures { OnOk result (Adds (string_bytes out.old) (string_bytes out.new)) }
+{
     let Some(known) = known else {
         return Ok(());
     };
@@ -101,7 +124,10 @@ fn put_world_type(
     targets: &ImportTargets<'_>,
     import: &CoreImport,
     name: &ImportName,
-) -> Result<(), AllocError> {
+) -> Result<(), AllocError>
+    requires { IsSound targets.now.resolved.resolve }
+    ensures { OnOk result (Adds (string_bytes out.old) (string_bytes out.new)) }
+{
     match meaning_of(alloc, core, targets, import, name)? {
         Some(meaning) => {
             let required = required_import(alloc, &targets.resolved().resolve, WORLD, &meaning)?;
@@ -118,7 +144,9 @@ fn required_text(
     core: &CoreModule,
     targets: &ImportTargets<'_>,
     import: &CoreImport,
-) -> Result<String, AllocError> {
+) -> Result<String, AllocError>
+    requires { IsSound targets.now.resolved.resolve }
+{
     let mut out = String::new(alloc);
     let name = name_of(alloc, import)?;
     match targets.role(&name) {
@@ -159,7 +187,9 @@ fn required_of_export(
     resolved: &Resolved,
     role: &ExportRole,
     item: &ExportedItem,
-) -> Result<String, AllocError> {
+) -> Result<String, AllocError>
+    requires { IsSound resolved.now.resolve }
+{
     let mut out = String::new(alloc);
     if is_memory(role) {
         out.push_str("a memory")?;
@@ -175,7 +205,9 @@ fn required_of_export(
 // ---- lines
 
 /// Adds both types, which differ.
-fn put_types(out: &mut String, has: &str, required: &str) -> Result<(), AllocError> {
+fn put_types(out: &mut String, has: &str, required: &str) -> Result<(), AllocError>
+    ensures { OnOk result (Adds (string_bytes out.old) (string_bytes out.new)) }
+{
     out.push_str(" has the type ")?;
     out.push_str(has)?;
     if required.is_empty() {
@@ -187,7 +219,8 @@ fn put_types(out: &mut String, has: &str, required: &str) -> Result<(), AllocErr
     Ok(())
 }
 
-/// The type of an import beside that of its role, where these differ: the result is whether they do.
+/// The type of an import beside that of its role, where these differ: the result is whether they do. Both are compared
+/// as the texts that are shown.
 fn put_import(
     alloc: Global,
     out: &mut String,
@@ -196,7 +229,10 @@ fn put_import(
     core: &CoreModule,
     targets: &ImportTargets<'_>,
     import: &CoreImport,
-) -> Result<bool, AllocError> {
+) -> Result<bool, AllocError>
+    requires { IsSound targets.now.resolved.resolve }
+    ensures { OnOk result (Adds (string_bytes out.old) (string_bytes out.new)) }
+{
     let required = required_text(alloc, known, core, targets, import)?;
     let mut has = String::new(alloc);
     put_entity(&mut has, core, import.entity)?;
@@ -204,7 +240,12 @@ fn put_import(
         return Ok(false);
     }
     put_place(out, &one.given)?;
-    put_pair(out, "  the core import ", import.module.as_str(), import.field.as_str())?;
+    put_pair(
+        out,
+        "  the core import ",
+        import.module.as_str(),
+        import.field.as_str(),
+    )?;
     put_types(out, has.as_str(), required.as_str())?;
     Ok(true)
 }
@@ -217,7 +258,10 @@ fn put_imports(
     read: &Read,
     resolved: &Resolved,
     name: &Text,
-) -> Result<bool, AllocError> {
+) -> Result<bool, AllocError>
+    requires { IsSound resolved.now.resolve }
+    ensures { OnOk result (Adds (string_bytes out.old) (string_bytes out.new)) }
+{
     let targets = ImportTargets::of(alloc, resolved, &read.said.roles.import_roles)?;
     for import in read.core.imports.as_slice() {
         if import.field == *name {
@@ -237,7 +281,10 @@ fn put_export(
     read: &Read,
     resolved: &Resolved,
     name: &Text,
-) -> Result<bool, AllocError> {
+) -> Result<bool, AllocError>
+    requires { IsSound resolved.now.resolve }
+    ensures { OnOk result (Adds (string_bytes out.old) (string_bytes out.new)) }
+{
     let Some(item) = read.core.exports.get(name) else {
         return Ok(false);
     };
@@ -263,7 +310,9 @@ fn put_in(
     one: &Known,
     read: &Read,
     name: &Text,
-) -> Result<bool, AllocError> {
+) -> Result<bool, AllocError>
+    ensures { OnOk result (Adds (string_bytes out.old) (string_bytes out.new)) }
+{
     let Some(resolved) = resolved_of(alloc, &read.said.wit)? else {
         return Ok(false);
     };
@@ -283,7 +332,9 @@ fn belongs(role: Option<&ExportRole>) -> bool {
     )
 }
 
-fn put_idle(out: &mut String, one: &Known, read: &Read, name: &Text) -> Result<bool, AllocError> {
+fn put_idle(out: &mut String, one: &Known, read: &Read, name: &Text) -> Result<bool, AllocError>
+    ensures { OnOk result (Adds (string_bytes out.old) (string_bytes out.new)) }
+{
     if !belongs(read.said.roles.export_roles.get(name)) {
         return Ok(false);
     }
@@ -293,26 +344,51 @@ fn put_idle(out: &mut String, one: &Known, read: &Read, name: &Text) -> Result<b
     Ok(true)
 }
 
+/// The first module where the types differ.
+fn put_first_unfit(
+    alloc: Global,
+    out: &mut String,
+    known: &[Known],
+    name: &Text,
+) -> Result<bool, AllocError>
+    ensures { OnOk result (Adds (string_bytes out.old) (string_bytes out.new)) }
+{
+    for one in known {
+        if let Some(read) = &one.read {
+            if put_in(alloc, out, known, one, read, name)? {
+                return Ok(true);
+            }
+        }
+    }
+    Ok(false)
+}
+
+/// The first module where they agree, and the function takes no such.
+fn put_first_idle(out: &mut String, known: &[Known], name: &Text) -> Result<bool, AllocError>
+    ensures { OnOk result (Adds (string_bytes out.old) (string_bytes out.new)) }
+{
+    for one in known {
+        if let Some(read) = &one.read {
+            if put_idle(out, one, read, name)? {
+                return Ok(true);
+            }
+        }
+    }
+    Ok(false)
+}
+
 /// Which core import or core export of this name has a type that its role hasn't, where it stands, and both types.
 pub(crate) fn put_unfit(
     alloc: Global,
     out: &mut String,
     known: &[Known],
     name: &Text,
-) -> Result<(), AllocError> {
-    for one in known {
-        if let Some(read) = &one.read {
-            if put_in(alloc, out, known, one, read, name)? {
-                return Ok(());
-            }
-        }
+) -> Result<(), AllocError>
+    ensures { OnOk result (Adds (string_bytes out.old) (string_bytes out.new)) }
+{
+    if put_first_unfit(alloc, out, known, name)? {
+        return Ok(());
     }
-    for one in known {
-        if let Some(read) = &one.read {
-            if put_idle(out, one, read, name)? {
-                return Ok(());
-            }
-        }
-    }
+    let _there = put_first_idle(out, known, name)?;
     Ok(())
 }

@@ -9,7 +9,16 @@ use crate::near::near_word;
 use comp_lists::split_once;
 use std::alloc::{AllocError, Global};
 
-const COMMANDS: &[&str] = &["new", "lint", "record", "defs", "links", "explain", "--help", "--version"];
+const COMMANDS: &[&str] = &[
+    "new",
+    "lint",
+    "record",
+    "defs",
+    "links",
+    "explain",
+    "--help",
+    "--version",
+];
 
 const OPTIONS: &[&str] = &[
     "--adapt",
@@ -155,7 +164,12 @@ fn put_options(out: &mut String, command: &str, words: &[String]) -> Result<(), 
             [] => return Ok(()),
             [option, word, behind @ ..] if is_adapt(command, option.as_str()) => {
                 if split_once(word.as_str(), '=').is_none() {
-                    return put_named(out, "  \"--adapt\" takes NAME=FILE behind it, and not ", word.as_str(), "");
+                    return put_named(
+                        out,
+                        "  \"--adapt\" takes NAME=FILE behind it, and not ",
+                        word.as_str(),
+                        "",
+                    );
                 }
                 rest = behind;
             }
@@ -176,12 +190,19 @@ fn put_behind(out: &mut String, command: &str, words: &[String]) -> Result<(), A
 {
     match words {
         [code] if command == "explain" => {
-            put_named(out, "  ", code.as_str(), " is no code that the program prints")
+            put_named(
+                out,
+                "  ",
+                code.as_str(),
+                " is no code that the program prints",
+            )
         }
         [_file, _form, word, _more @ ..] if command == "links" => {
             put_named(out, "  ", word.as_str(), " is one word too many")
         }
-        [_first, _second, more @ ..] if count_of(command) == Some(2) => put_options(out, command, more),
+        [_first, _second, more @ ..] if count_of(command) == Some(2) => put_options(
+            out, command, more,
+        ),
         [_first, more @ ..] if count_of(command) == Some(1) => put_options(out, command, more),
         more => put_options(out, command, more),
     }

@@ -119,6 +119,13 @@ pub(crate) fn answer(alloc: Global, input: &str) -> Result<String, AllocError> {
     let mut store = Kept::new(alloc, Readable { files });
     let mut out = Vec::new(alloc);
     let mut err = Vec::new(alloc);
-    let status = start(alloc, &arguments, &mut store, &mut Named {}, &mut out, &mut err);
+    let status = start(
+        alloc,
+        &arguments,
+        &mut store,
+        &mut Named {},
+        &mut out,
+        &mut err,
+    );
     joined(alloc, status, str::from_utf8(&err).unwrap_or("no text"))
 }
