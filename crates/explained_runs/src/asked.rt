@@ -1,6 +1,6 @@
 //! What words ask for beside a run.
 
-ghost use Rattle.std.specs.Prelude.{◌≡◌, ◌≤◌, length, map, string_bytes};
+ghost use Rattle.std.specs.Prelude.{◌≡◌, ◌<◌, length, map, string_bytes, IfSome};
 ghost use Rattle.explained_runs.specs.Asked as spec;
 
 /// What is asked for beside a run.
@@ -14,7 +14,8 @@ pub(crate) struct Asked {
 
 /// The position of a word, from this one on.
 fn position_of(words: &[String], from: usize, word: &str) -> Option<usize>
-    ensures { result ≡ spec.position_of from word.now (map string_bytes words.now) }
+    ensures first { result ≡ spec.position_of from word.now (map string_bytes words.now) }
+    ensures below { IfSome result (λ position. position < length words.now) }
 {
     for position in from..words.len() {
         if words[position].as_str() == word {
@@ -25,6 +26,7 @@ fn position_of(words: &[String], from: usize, word: &str) -> Option<usize>
 }
 
 /// Takes a word out where it stands first, from a position on: the result is whether it was there.
+#[tactic(auto, using(crate::proofs::Removing::map_remove))]
 fn take_word(words: &mut Vec<String>, from: usize, word: &str) -> bool
     ensures there { result ≡ spec.has_word from word.now (map string_bytes words.old.items) }
     ensures left { map string_bytes words.new.items

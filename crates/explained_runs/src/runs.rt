@@ -103,6 +103,7 @@ fn more_of<R: Reasons>(
 }
 
 /// Says what is asked for beside a run; nothing where there is no memory for it.
+#[tactic(auto, using(crate::proofs::Saying::said_more))]
 fn say_more<R: Reasons, E: Write>(
     alloc: Global,
     asked: Asked,
