@@ -38,6 +38,6 @@ pub use arguments::is_listing;
 pub use fault::RunFault;
 pub use messages::{MEMORY, say, say_not_text};
 pub use running::{perform, report, run_with, status_of};
-pub use starting::{WordsFault, start_with, words_of};
+pub use starting::{WordsFault, words_of};
 pub use store::{Event, Store, StoreFault};
 pub use stored::Stored;

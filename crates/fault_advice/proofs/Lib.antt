@@ -1,2 +1,3 @@
 pub mod Adding
 mod Requiring
+mod Resolvable

@@ -12,6 +12,7 @@ use Rattle.fault_advice.specs.Imports.{import_lines, taking_line}
 use Rattle.fault_advice.specs.Kinds.{kind_line}
 use Rattle.fault_advice.specs.Lines.{Adds}
 use Rattle.fault_advice.specs.Places as places
+use Rattle.fault_advice.specs.Unfit.{unfit_lines}
 use Rattle.fault_advice.specs.declared.given.Given.{Given}
 use Rattle.fault_advice.specs.declared.given.Known.{Known}
 use Rattle.fault_advice.specs.declared.places.Missing.{Missing}
@@ -35,8 +36,7 @@ conflict_lines (Some k) = place_line k.given ++ codes "  two sections of it, or 
 abbrev pub import_name : List ℕ → List ℕ → ImportName
 import_name «module» field = record { «module» = «module»; field = field }
 
--- What a text gets for a fault of modules: of a record that can't be read, and of a core type, only that it gets longer behind the
--- line that says where.
+-- What a text gets for a fault of modules: of a value of a record, only that it gets longer behind the line that says where.
 abbrev pub AddsPlain : List Known → PlainFault → List ℕ → List ℕ → Type 0
 AddsPlain known plain.Memory before after = after ≡ before
 AddsPlain known plain.NotModule before after = after ≡ before ++ not_module_lines (refused known)
@@ -48,7 +48,7 @@ AddsPlain known (plain.MergeConflict name) before after = after ≡ before ++ co
 AddsPlain known (plain.LeftOut what) before after = after ≡ before ++ refused_line (refused known)
 AddsPlain known (plain.RoleMissing «module» field) before after = after ≡ before ++ import_lines known (import_name «module» field)
 AddsPlain known (plain.ExportMissing function) before after = after ≡ before ++ exports.missing_lines known function
-AddsPlain known (plain.CoreType name) before after = Adds before after
+AddsPlain known (plain.CoreType name) before after = after ≡ before ++ unfit_lines known name
 AddsPlain known (plain.ImportTwice «module» field) before after = after ≡ before ++ taking_line known (import_name «module» field)
 AddsPlain known plain.MemoryGrow before after = after ≡ before
 

@@ -11,6 +11,7 @@ use Rattle.package_lower.specs.Layer.{decoded}
 use Rattle.package_lower.specs.declared.fault.LowerFault.{LowerFault}
 use Rattle.record_merge.specs.declared.bindgen.Bindgen.{Bindgen}
 use Rattle.fault_advice.specs.Lines.{about}
+use Rattle.fault_advice.specs.Resolving.{IsResolvedBy}
 use Rattle.fault_advice.specs.declared.given.Given.{Given}
 use Rattle.fault_advice.specs.declared.given.Known.{Known}
 use Rattle.fault_advice.specs.declared.given.Read.{Read}
@@ -19,8 +20,13 @@ use Rattle.fault_advice.specs.declared.given.Read.{Read}
 
 -- the imports and exports of what is left of a module, where they can be read
 abbrev pub IsReadRest : List ℕ → Bindgen → Option Read → Type 0
-IsReadRest rest said (Some r) = (module_of rest ≡ Ok r.core) × (r.said ≡ said)
+IsReadRest rest said (Some r) = (module_of rest ≡ Ok r.core) × (r.said ≡ said) × IsResolvedBy said.wit r.world
 IsReadRest rest said None = (f : SectionFault) × (module_of rest ≡ Err f)
+
+-- with the world that it says, where that can be resolved
+abbrev pub IsWith : CoreModule → Bindgen → Option Read → Type 0
+IsWith core said (Some r) = (r.core ≡ core) × (r.said ≡ said) × IsResolvedBy said.wit r.world
+IsWith core said None = ⊥
 
 -- what describes the module's component is refused, for this reason
 pub record IsRefused (bytes : List ℕ) : Type 0 where
@@ -29,7 +35,7 @@ pub record IsRefused (bytes : List ℕ) : Type 0 where
 
 -- what a module says and has; or nothing, where one of these can't be read
 abbrev pub IsRead : List ℕ → Option Read → Type 0
-IsRead bytes (Some r) = (module_of (decoded false bytes).0 ≡ Ok r.core) × (r.said ≡ (decoded false bytes).1)
+IsRead bytes (Some r) = (module_of (decoded false bytes).0 ≡ Ok r.core) × (r.said ≡ (decoded false bytes).1) × IsResolvedBy (decoded false bytes).1.wit r.world
 IsRead bytes None = IsRefused bytes ⊎ ((f : SectionFault) × (module_of (decoded false bytes).0 ≡ Err f))
 
 abbrev pub IsFaithful : Known → Type 0

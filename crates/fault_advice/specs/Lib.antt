@@ -2,6 +2,7 @@ pub mod Lines
 pub mod Near
 pub mod Words
 pub mod Kinds
+pub mod Resolving
 pub mod Given
 pub mod Imports
 pub mod Exports

@@ -4,9 +4,10 @@ ghost use Rattle.std.specs.Prelude.{◌≡◌, ◌++◌, not, find, is_some, map
 ghost use Rattle.std.specs.List.{AllByRecursion};
 ghost use Rattle.std.specs.Option.{option_copied};
 ghost use Rattle.comp_lists.specs.Found.{found};
-ghost use Rattle.fault_advice.specs.Given.{IsRead, IsReadRest, IsFaithful, is_read, is_adapter, is_main, is_named, exports_in, place_line};
+ghost use Rattle.fault_advice.specs.Given.{IsWith, IsRead, IsReadRest, IsFaithful, is_read, is_adapter, is_main, is_named, exports_in, place_line};
 
 use crate::lines::put_about;
+use crate::resolving::{SoundWorld, resolved_of};
 use comp_lists::{Bytes, Keyed, Seq, SharedBytes, Text};
 use comp_worlds::Lower;
 use core_sections::{CoreModule, ExportedItem, SectionFault, read_module};
@@ -29,6 +30,8 @@ pub struct Given {
 pub(crate) struct Read {
     pub core: CoreModule,
     pub said: Bindgen,
+    /// The world that it says, resolved, unless that is refused.
+    pub world: Option<SoundWorld>,
 }
 
 /// A module, and what it says, where that can be read.
@@ -40,12 +43,24 @@ pub(crate) struct Known {
 
 // ---- reading
 
+/// What a module says and has, with its world.
+fn with_world(
+    alloc: Global,
+    core: CoreModule,
+    said: Bindgen,
+) -> Result<Option<Read>, AllocError>
+    ensures { IfOk result (IsWith core said) }
+{
+    let world = resolved_of(alloc, &said.wit)?;
+    Ok(Some(Read { core, said, world }))
+}
+
 /// What a module says, with what it has beside that, where it can be read.
 fn read_rest(alloc: Global, rest: SharedBytes, said: Bindgen) -> Result<Option<Read>, AllocError>
     ensures { IfOk result (IsReadRest rest said) }
 {
     match read_module(alloc, rest.as_slice()) {
-        Ok(core) => Ok(Some(Read { core, said })),
+        Ok(core) => with_world(alloc, core, said),
         Err(SectionFault::Memory) => Err(AllocError),
         Err(_) => Ok(None),
     }

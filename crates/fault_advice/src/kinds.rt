@@ -1,7 +1,7 @@
 //! What a file is that is no core module.
 
 ghost use Rattle.std.specs.Prelude.{◌≡◌};
-ghost use Rattle.fault_advice.specs.Kinds.{kind_line};
+ghost use Rattle.fault_advice.specs.Kinds.{begins_text, kind_line};
 
 const EMPTY: &str = "  the file is empty\n";
 
@@ -17,7 +17,9 @@ const TEXT: &str = "  the file is text: compile it to a core module in binary fo
 const OTHER: &str = "  the file doesn't begin as a core module in binary form\n";
 
 /// Whether a byte begins a text: a blank, a line's end, or a visible character of ASCII.
-fn begins_text(byte: u8) -> bool {
+fn begins_text(byte: u8) -> bool
+    ensures { result ≡ begins_text byte }
+{
     byte == 9 || byte == 10 || byte == 13 || (byte >= 32 && byte < 127)
 }
 

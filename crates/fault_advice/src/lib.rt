@@ -9,7 +9,7 @@
 //!
 //! In reading order: `lines` (pieces of lines), `near` (names that are close), `words` (wrong usage), `kinds` (what a file
 //! is), `given` (modules, and what they say), `records` (places in records), `imports` and `exports` (roles that are
-//! missing), `types` (core types, as text), `required` (those that roles require), `unfit` (types that differ), `places`
+//! missing), `types` (core types, as text), `resolving` (worlds), `required` (those that roles require), `unfit` (types that differ), `places`
 //! (memories and reallocs), `advising` (the advice of a fault).
 #![tactic(auto)]
 
@@ -23,6 +23,7 @@ mod near;
 mod places;
 mod records;
 mod required;
+mod resolving;
 mod types;
 mod unfit;
 mod words;
