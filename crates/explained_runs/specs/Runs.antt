@@ -17,9 +17,9 @@ use Rattle.explained_runs.specs.declared.asked.Asked.{Asked}
 use Rattle.explained_runs.specs.declared.kept.KeptFile.{KeptFile}
 
 -- a text where it is asked for, and else nothing
-abbrev pub If : Bool → (List ℕ → Type 0) → List ℕ → Type 0
-If true P text = P text
-If false P text = text ≡ []
+abbrev pub IfAsked : Bool → (List ℕ → Type 0) → List ℕ → Type 0
+IfAsked true P text = P text
+IfAsked false P text = text ≡ []
 
 -- the files that were kept, as the modules that they are by the words of the run
 abbrev pub modules_by : List (List ℕ) → List KeptFile → List Given
@@ -29,8 +29,8 @@ modules_by words files = given_of files (filter_map adapter_of (adapter_words wo
 pub record IsMore (a : Asked) (words : List (List ℕ)) (files : List KeptFile) (ended : Result ⊤ (RunFault LowerFault)) (text : List ℕ) : Type 0 where
   pub advice : List ℕ
   pub warnings : List ℕ
-  pub is_advice : If a.explains (IsNeeded words (modules_by words files) ended) advice
-  pub is_warnings : If a.lints (IsWarning (modules_by words files)) warnings
+  pub is_advice : IfAsked a.explains (IsNeeded words (modules_by words files) ended) advice
+  pub is_warnings : IfAsked a.lints (IsWarning (modules_by words files)) warnings
   pub is : text ≡ advice ++ warnings
 
 -- that was said, or nothing: where neither is asked for, or there was no memory for it

@@ -5,7 +5,7 @@ ghost use Rattle.atomic_files.specs.Files.{Known};
 ghost use Rattle.atomic_files.specs.Steps.{Kept as KeptFiles};
 ghost use Rattle.command_line.specs.Starting.{first_not_text};
 ghost use Rattle.explained_runs.specs.Advice.{IsNeeded, IsWarning};
-ghost use Rattle.explained_runs.specs.Runs.{If, IsMore, RanBeside, StartedBeside, SaysMore, fresh};
+ghost use Rattle.explained_runs.specs.Runs.{IfAsked, IsMore, RanBeside, StartedBeside, SaysMore, fresh};
 
 use crate::advice::advice_of;
 use crate::asked::{Asked, take_asked};
@@ -55,7 +55,7 @@ fn needed<R: Reasons>(
 }
 
 fn warnings_if(alloc: Global, asked: Asked, given: &[Given]) -> Result<String, AllocError>
-    ensures { IfOk result (λ text. If asked.lints (IsWarning given.now) (string_bytes text)) }
+    ensures { IfOk result (λ text. IfAsked asked.lints (IsWarning given.now) (string_bytes text)) }
 {
     if asked.lints {
         warnings_of(alloc, given)
@@ -72,7 +72,7 @@ fn needed_if<R: Reasons>(
     reasons: &mut R,
     done: &Result<(), RunFault<LowerFault>>,
 ) -> Result<String, AllocError>
-    ensures { IfOk result (λ text. If asked.explains
+    ensures { IfOk result (λ text. IfAsked asked.explains
         (IsNeeded (map string_bytes words.now) given done.now) (string_bytes text)) }
 {
     if asked.explains {

@@ -14,4 +14,12 @@ adds_then before now after h k = record {
   is = k.is ∙ (ap (λ (t : List ℕ). t ++ k.text) h.is ∙ append_assoc before h.text k.text);
 }
 
+-- behind a line
+pub adds_behind : (before line now after : List ℕ) → now ≡ before ++ line → Adds now after → Adds (before ++ line) after
+adds_behind before line now after h k = record { text = k.text; is = k.is ∙ ap (λ (t : List ℕ). t ++ k.text) h }
+
+-- behind no line
+pub adds_none : (before : List ℕ) → Adds (before ++ []) before
+adds_none before = record { text = []; is = sym (append-nil before) ∙ sym (append-nil (before ++ [])) }
+
 pub ruleset adding = (adds_nothing, adds_this, adds_then)

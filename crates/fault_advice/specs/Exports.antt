@@ -8,6 +8,7 @@ use Rattle.comp_lists.specs.Tables.{with_first}
 use Rattle.core_sections.specs.declared.core_module.CoreModule.{CoreModule}
 use Rattle.core_sections.specs.declared.entries.ExportedItem.{ExportedItem}
 use Rattle.record_values.specs.declared.names.InterfaceName.{InterfaceName}
+use Rattle.record_values.specs.declared.names.Owner.{Owner}
 use Rattle.record_values.specs.declared.names.Owner.TheVariants as owners
 use Rattle.record_values.specs.declared.names.TypeName.{TypeName}
 use Rattle.record_values.specs.declared.roles.ExportRole.{ExportRole}
@@ -60,7 +61,7 @@ of_world name = record { owner = owners.World; name = name }
 abbrev pub function_at : Wit → List ℕ → ItemKey → Item → Option TypeName
 function_at w name key (items.Interface interface) = if interface_has w interface name then Some (of_interface interface name) else None
 function_at w name key (items.Function f) = if bytes_eq (key_text key) name then Some (of_world name) else None
-function_at w name key (items.«Type» nodes) = None
+function_at w name key (items.Type nodes) = None
 
 abbrev pub function_in : Wit → List ℕ → ItemKey × Item → Option TypeName
 function_in w name e = function_at w name e.0 e.1
@@ -88,20 +89,20 @@ exported r fields any name = first_sought r.core fields any r.said.wit name r.sa
 
 -- ---- lines
 
-abbrev pub owner_words : TypeName → List ℕ
-owner_words (record { owner = owners.Interface interface; name = name }) = about (codes " of the exported interface ") (name_text interface)
-owner_words (record { owner = owners.World; name = name }) = codes " that the world exports"
+abbrev pub owner_words : Owner → List ℕ
+owner_words (owners.Interface interface) = about (codes " of the exported interface ") (name_text interface)
+owner_words owners.World = codes " that the world exports"
 
 abbrev pub function_line : List ℕ → TypeName → List ℕ
-function_line words function = about (codes "  the function ") function.name ++ owner_words function ++ words ++ codes "\n"
+function_line words function = about (codes "  the function ") function.name ++ owner_words function.owner ++ words ++ codes "\n"
 
-abbrev pub front_of : TypeName → List ℕ
-front_of (record { owner = owners.Interface interface; name = name }) = name_text interface ++ codes "#"
-front_of (record { owner = owners.World; name = name }) = []
+abbrev pub front_of : Owner → List ℕ
+front_of (owners.Interface interface) = name_text interface ++ codes "#"
+front_of owners.World = []
 
 -- the name of the core export in a module that has a package (component model, build targets)
 abbrev pub expected_name : TypeName → List ℕ
-expected_name function = front_of function ++ function.name
+expected_name function = front_of function.owner ++ function.name
 
 -- the first core export without a role that is close to a name
 abbrev pub near_free : List (List ℕ × ExportedItem) → List (List ℕ × ExportRole) → List ℕ → Option (List ℕ)

@@ -2,7 +2,7 @@
 -- another letter in the place of one, adds one, takes one out, or exchanges two neighbours (which is two changes where it isn't
 -- the only one). Common letters at the front stay. One change takes at most four comparisons of what is left, and two take
 -- three times as many: so the time is linear in the lengths, and in the names. (The program's own.)
-use Rattle.std.specs.Prelude.{ℕ, nat_eq, nat_le, nat_lt, Bool, true, false, not, ◌==◌, ◌&&◌, ◌||◌, List, [], ◌∷◌, length, if◌then◌else◌}
+use Rattle.std.specs.Prelude.{ℕ, nat_eq, nat_le, nat_lt, Bool, true, false, not, ◌==◌, ◌&&◌, ◌||◌, List, [], ◌∷◌, length, Option, Some, None, if◌then◌else◌}
 use Rattle.std.specs.Cmp.Lexicographic.{pointwise}
 use Rattle.std.specs.Str.{bytes_eq}
 
@@ -10,9 +10,16 @@ abbrev pub same : List ℕ → List ℕ → Bool
 same = pointwise nat_eq
 
 -- two neighbours at the front are exchanged, and all else is equal
+abbrev pub front_two : List ℕ → Option (ℕ × ℕ × List ℕ)
+front_two (a ∷ b ∷ rest) = Some (a, b, rest)
+front_two text = None
+
+abbrev pub swapped : Option (ℕ × ℕ × List ℕ) → Option (ℕ × ℕ × List ℕ) → Bool
+swapped (Some x) (Some y) = (x.0 == y.1) && ((x.1 == y.0) && same x.2 y.2)
+swapped x y = false
+
 abbrev pub is_swapped : List ℕ → List ℕ → Bool
-is_swapped (a ∷ b ∷ rest) (c ∷ d ∷ others) = (a == d) && ((b == c) && same rest others)
-is_swapped first second = false
+is_swapped first second = swapped (front_two first) (front_two second)
 
 -- one text becomes the other by at most one change
 abbrev pub one_change : List ℕ → List ℕ → Bool

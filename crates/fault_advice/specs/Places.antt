@@ -5,12 +5,14 @@ use Rattle.std.specs.Map.{lookup}
 use Rattle.std.specs.Option.{option_and_then, option_or}
 use Rattle.std.specs.Str.{bytes_eq}
 use Rattle.core_sections.specs.declared.entries.CoreImport.{CoreImport}
+use Rattle.core_sections.specs.declared.entries.EntityType.{EntityType}
 use Rattle.core_sections.specs.declared.entries.EntityType.TheVariants as entities
 use Rattle.core_sections.specs.declared.entries.ExportedItem.{ExportedItem}
 use Rattle.core_sections.specs.declared.entries.ExportedItem.TheVariants as exported_items
 use Rattle.name_parts.specs.Texts.{after}
 use Rattle.record_values.specs.declared.roles.ExportRole.{ExportRole}
 use Rattle.record_values.specs.declared.roles.ExportRole.TheVariants as roles
+use Rattle.record_values.specs.declared.roles.PlainExport.{PlainExport}
 use Rattle.record_values.specs.declared.roles.PlainExport.TheVariants as plain
 use Rattle.core_sections.specs.declared.core_module.CoreModule.{CoreModule}
 use Rattle.record_values.specs.declared.names.TypeName.{TypeName}
@@ -53,12 +55,16 @@ abbrev pub is_memory : Missing → Bool
 is_memory missing.Memory = true
 is_memory missing.Realloc = false
 
+abbrev pub is_sought_plain : Missing → PlainExport → Bool
+is_sought_plain m plain.Memory = is_memory m
+is_sought_plain m plain.Realloc = not (is_memory m)
+is_sought_plain m plain.ImportRealloc = not (is_memory m)
+is_sought_plain m plain.ExportRealloc = not (is_memory m)
+is_sought_plain m role = false
+
 -- a role is that of what is missing
 abbrev pub is_sought : Missing → ExportRole → Bool
-is_sought m (roles.Plain plain.Memory) = is_memory m
-is_sought m (roles.Plain plain.Realloc) = not (is_memory m)
-is_sought m (roles.Plain plain.ImportRealloc) = not (is_memory m)
-is_sought m (roles.Plain plain.ExportRealloc) = not (is_memory m)
+is_sought m (roles.Plain role) = is_sought_plain m role
 is_sought m role = false
 
 abbrev pub has_export : List (List ℕ × ExportedItem) → List ℕ → Bool
@@ -69,14 +75,15 @@ abbrev pub vain_field : Missing → List (List ℕ × ExportedItem) → List (Li
 vain_field m exports [] = None
 vain_field m exports (e ∷ es) = if is_sought m e.1 && not (has_export exports e.0) then Some e.0 else vain_field m exports es
 
--- a core export could be what is missing: a memory, or a function that is named as reallocs are
-abbrev pub could_be : Missing → List ℕ → ExportedItem → Bool
-could_be m name (exported_items.Entity (entities.Memory limits)) = is_memory m
-could_be m name (exported_items.Entity (entities.Function index)) = not (is_memory m) && bytes_eq name (codes "cabi_realloc")
-could_be m name item = false
+abbrev pub could_be : Missing → List ℕ → EntityType → Bool
+could_be m name (entities.Memory limits) = is_memory m
+could_be m name (entities.Function index) = not (is_memory m) && bytes_eq name (codes "cabi_realloc")
+could_be m name entity = false
 
+-- a core export could be what is missing: a memory, or a function that is named as reallocs are
 abbrev pub is_fit : Missing → List ℕ × ExportedItem → Bool
-is_fit m e = could_be m e.0 e.1
+is_fit m (name, exported_items.Entity entity) = could_be m name entity
+is_fit m (name, exported_items.Tag) = false
 
 -- the first such one that has no role
 abbrev pub spare_field : Missing → List (List ℕ × ExportedItem) → List (List ℕ × ExportRole) → Option (List ℕ)

@@ -21,6 +21,7 @@ use Rattle.record_values.specs.declared.roles.ExportRole.{ExportRole}
 use Rattle.record_values.specs.declared.roles.ExportRole.TheVariants as export_roles
 use Rattle.record_values.specs.declared.roles.ImportRole.{ImportRole}
 use Rattle.record_values.specs.declared.roles.ImportRole.TheVariants as roles
+use Rattle.record_values.specs.declared.roles.PlainExport.{PlainExport}
 use Rattle.record_values.specs.declared.roles.PlainExport.TheVariants as plain
 use Rattle.wit_data.specs.declared.ids.WorldId.{WorldId}
 use Rattle.fault_advice.specs.Given.{place_line}
@@ -72,8 +73,12 @@ has_text core i = entity_text core i.entity
 
 -- ---- what roles of core exports require
 
+abbrev pub is_plain_memory : PlainExport → Bool
+is_plain_memory plain.Memory = true
+is_plain_memory role = false
+
 abbrev pub is_memory : ExportRole → Bool
-is_memory (export_roles.Plain plain.Memory) = true
+is_memory (export_roles.Plain role) = is_plain_memory role
 is_memory role = false
 
 abbrev pub export_of : CoreModule → Resolved → ExportRole → ExportedItem → Option Export
@@ -142,10 +147,14 @@ unfit_in known name k = option_and_then (λ r. option_and_then (λ world. both_i
 -- ---- where the types agree
 
 -- a role is for a function that is called after another one, or continues it
+abbrev pub belongs_role : ExportRole → Bool
+belongs_role (export_roles.PostReturn owner function) = true
+belongs_role (export_roles.Callback owner function) = true
+belongs_role role = false
+
 abbrev pub belongs : Option ExportRole → Bool
-belongs (Some (export_roles.PostReturn owner function)) = true
-belongs (Some (export_roles.Callback owner function)) = true
-belongs role = false
+belongs None = false
+belongs (Some role) = belongs_role role
 
 abbrev pub idle_lines : Known → List ℕ → List ℕ
 idle_lines k name = place_line k.given ++ about (codes "  the core export ") name ++ codes " belongs to a function that takes none such: drop its role\n"

@@ -1,7 +1,7 @@
 -- Which of the words after the program's name is wrong, where they are not those of the program: the first that is. The words are
 -- those without the first `--explain` and, behind `new`, without the first `--lint`. (The program's own: its command line.)
-use Rattle.std.specs.Prelude.{ℕ, nat_lt, Bool, false, not, ◌&&◌, ◌||◌, List, [], ◌∷◌, ◌++◌, length, codes, find, map, is_some, Option, Some, None, if◌then◌else◌}
-use Rattle.std.specs.List.{list_any, starts_with}
+use Rattle.std.specs.Prelude.{ℕ, nat_lt, Bool, false, not, ◌==◌, ◌&&◌, ◌||◌, List, [], ◌∷◌, ◌++◌, length, drop, codes, find, map, is_some, Option, Some, None, if◌then◌else◌}
+use Rattle.std.specs.List.{list_any}
 use Rattle.std.specs.Str.{bytes_eq}
 use Rattle.comp_lists.specs.Splits.{split_once}
 use Rattle.fault_advice.specs.Lines.{about, named_line}
@@ -70,51 +70,53 @@ abbrev pub begins_with_hyphen : List ℕ → Bool
 begins_with_hyphen [] = false
 begins_with_hyphen (byte ∷ bytes) = byte == 45
 
+abbrev pub too_many : List ℕ → List ℕ
+too_many word = named_line (codes "  ") word (codes " is one word too many")
+
 -- a word that stands where none can
 abbrev pub spare : List ℕ → List ℕ → List ℕ
 spare command word =
     if is_adapt command word then named_line (codes "  ") word (codes " takes NAME=FILE behind it")
     else (if is_option command word || is_taken command word then named_line (codes "  ") word (codes " is there twice")
-    else (if begins_with_hyphen word then no_option command word
-    else named_line (codes "  ") word (codes " is one word too many")))
+    else (if begins_with_hyphen word then no_option command word else too_many word))
 
 -- the first of these words that is wrong, as one that is no option, or is there again behind it
 abbrev pub options : List ℕ → List (List ℕ) → List ℕ
 options command [] = []
-options command (word ∷ []) = if not (is_option command word) then spare command word else []
+options command (word ∷ []) = if not (is_option command word) || has [] word then spare command word else []
 options command (option ∷ word ∷ words) =
     if is_adapt command option
     then (if not (is_some (split_once 61 word)) then named_line (codes "  \"--adapt\" takes NAME=FILE behind it, and not ") word [] else options command words)
     else (if not (is_option command option) || has (word ∷ words) option then spare command option else options command (word ∷ words))
 
-abbrev pub behind_two : List ℕ → List (List ℕ) → List ℕ
-behind_two command (first ∷ second ∷ words) = options command words
-behind_two command words = options command words
+-- a code behind `explain` is no mistake if it is one
+abbrev pub behind_explain : List (List ℕ) → List ℕ
+behind_explain [] = []
+behind_explain (code ∷ []) = named_line (codes "  ") code (codes " is no code that the program prints")
+behind_explain (code ∷ word ∷ words) = too_many word
 
-abbrev pub behind_one : List ℕ → List (List ℕ) → List ℕ
-behind_one command (first ∷ words) = options command words
-behind_one command words = options command words
+-- `links` takes one option
+abbrev pub behind_file : List (List ℕ) → List ℕ
+behind_file [] = []
+behind_file (form ∷ []) = options (codes "links") (form ∷ [])
+behind_file (form ∷ word ∷ words) = too_many word
 
--- behind the names of files
-abbrev pub behind_files : List ℕ → Option ℕ → List (List ℕ) → List ℕ
-behind_files command (Some 2) words = behind_two command words
-behind_files command (Some 1) words = behind_one command words
-behind_files command _ words = options command words
+abbrev pub behind_links : List (List ℕ) → List ℕ
+behind_links [] = []
+behind_links (file ∷ words) = behind_file words
 
--- `links` takes one option, and a code that `explain` takes is a code
-abbrev pub behind : List ℕ → List (List ℕ) → List ℕ
-behind command (code ∷ []) =
-    if bytes_eq command (codes "explain") then named_line (codes "  ") code (codes " is no code that the program prints")
-    else behind_files command (count_of command) (code ∷ [])
-behind command (file ∷ form ∷ word ∷ words) =
-    if bytes_eq command (codes "links") then named_line (codes "  ") word (codes " is one word too many")
-    else behind_files command (count_of command) (file ∷ form ∷ word ∷ words)
-behind command words = behind_files command (count_of command) words
+abbrev pub behind : List ℕ → ℕ → List (List ℕ) → List ℕ
+behind command count words =
+    if bytes_eq command (codes "explain") then behind_explain words
+    else (if bytes_eq command (codes "links") then behind_links words else options command (drop count words))
+
+abbrev pub no_command : List ℕ → List ℕ
+no_command command = about (codes "  ") command ++ codes " is no command" ++ word_end commands_there command
 
 abbrev pub counted : List ℕ → Option ℕ → List (List ℕ) → List ℕ
-counted command None words = about (codes "  ") command ++ codes " is no command" ++ word_end commands_there command
+counted command None words = no_command command
 counted command (Some count) words =
-    if nat_lt (length words) count then named_line (codes "  ") command (taken_by command) else behind command words
+    if nat_lt (length words) count then named_line (codes "  ") command (taken_by command) else behind command count words
 
 abbrev pub commanded : List ℕ → List (List ℕ) → List ℕ
 commanded command words = counted command (count_of command) words

@@ -45,6 +45,7 @@ fn put_not_module(out: &mut String, known: &[Known]) -> Result<(), AllocError>
     }
 }
 
+#[tactic(auto, using(crate::proofs::Adding::adds_behind, crate::proofs::Adding::adds_none))]
 fn put_json(alloc: Global, out: &mut String, known: &[Known]) -> Result<(), AllocError>
     ensures { OnOk result (Adds (string_bytes out.old ++ refused_line (refused known.now))
         (string_bytes out.new)) }
@@ -58,6 +59,7 @@ fn put_json(alloc: Global, out: &mut String, known: &[Known]) -> Result<(), Allo
     }
 }
 
+#[tactic(auto, using(crate::proofs::Adding::adds_behind, crate::proofs::Adding::adds_none))]
 fn put_record(
     alloc: Global,
     out: &mut String,

@@ -44,11 +44,7 @@ pub(crate) struct Known {
 // ---- reading
 
 /// What a module says and has, with its world.
-fn with_world(
-    alloc: Global,
-    core: CoreModule,
-    said: Bindgen,
-) -> Result<Option<Read>, AllocError>
+fn with_world(alloc: Global, core: CoreModule, said: Bindgen) -> Result<Option<Read>, AllocError>
     ensures { IfOk result (IsWith core said) }
 {
     let world = resolved_of(alloc, &said.wit)?;

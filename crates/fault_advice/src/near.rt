@@ -3,20 +3,33 @@
 ghost use Rattle.std.specs.Prelude.{◌≡◌, map, find, option_map};
 ghost use Rattle.std.specs.Option.{option_copied};
 ghost use Rattle.comp_lists.specs.Tables.{keys_of};
-ghost use Rattle.fault_advice.specs.Near.{is_swapped, one_change, two_changes, is_near};
+ghost use Rattle.fault_advice.specs.Near.{front_two, is_swapped, one_change, two_changes, is_near};
 
 use comp_lists::{Keyed, Text};
+
+/// The first two bytes of a text, and what follows them.
+fn front_two(text: &[u8]) -> Option<(u8, u8, &[u8])>
+    ensures { option_map (λ x. (x.0, x.1, x.2.now)) result ≡ front_two text.now }
+{
+    match text {
+        [] => None,
+        [a, more @ ..] => match more {
+            [] => None,
+            [b, rest @ ..] => Some((*a, *b, rest)),
+        },
+    }
+}
 
 /// Whether two neighbours at the front are exchanged, and all else is equal.
 fn is_swapped(first: &[u8], second: &[u8]) -> bool
     ensures { result ≡ is_swapped first.now second.now }
 {
-    match first {
-        [a, b, rest @ ..] => match second {
-            [c, d, others @ ..] => a == d && b == c && rest == others,
-            _ => false,
+    match front_two(first) {
+        Some((a, b, rest)) => match front_two(second) {
+            Some((c, d, others)) => a == d && b == c && rest == others,
+            None => false,
         },
-        _ => false,
+        None => false,
     }
 }
 

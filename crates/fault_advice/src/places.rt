@@ -21,6 +21,17 @@ pub enum Missing {
     Realloc,
 }
 
+impl Missing {
+    fn is_memory(self) -> bool
+        ensures { result ≡ spec.is_memory self }
+    {
+        match self {
+            Missing::Memory => true,
+            Missing::Realloc => false,
+        }
+    }
+}
+
 // ---- what needs it
 
 /// Whether a text is the two names of a core import with a mark between them.
@@ -74,10 +85,19 @@ fn is_sought(missing: Missing, role: &ExportRole) -> bool
     ensures { result ≡ spec.is_sought missing role.now }
 {
     match role {
-        ExportRole::Plain(PlainExport::Memory) => missing == Missing::Memory,
-        ExportRole::Plain(PlainExport::Realloc) => missing == Missing::Realloc,
-        ExportRole::Plain(PlainExport::ImportRealloc) => missing == Missing::Realloc,
-        ExportRole::Plain(PlainExport::ExportRealloc) => missing == Missing::Realloc,
+        ExportRole::Plain(plain) => is_sought_plain(missing, *plain),
+        _ => false,
+    }
+}
+
+fn is_sought_plain(missing: Missing, role: PlainExport) -> bool
+    ensures { result ≡ spec.is_sought_plain missing role }
+{
+    match role {
+        PlainExport::Memory => missing.is_memory(),
+        PlainExport::Realloc => !missing.is_memory(),
+        PlainExport::ImportRealloc => !missing.is_memory(),
+        PlainExport::ExportRealloc => !missing.is_memory(),
         _ => false,
     }
 }
@@ -98,16 +118,23 @@ fn vain_field<'a>(
     None
 }
 
+fn could_be(missing: Missing, name: &str, entity: EntityType) -> bool
+    ensures { result ≡ spec.could_be missing name.now entity }
+{
+    match entity {
+        EntityType::Memory(_) => missing.is_memory(),
+        EntityType::Function(_) => !missing.is_memory() && name == "cabi_realloc",
+        _ => false,
+    }
+}
+
 /// Whether a core export could be what is missing: a memory, or a function that is named as reallocs are.
 fn is_fit(missing: Missing, name: &str, item: &ExportedItem) -> bool
     ensures { result ≡ spec.is_fit missing (name.now, item.now) }
 {
     match item {
-        ExportedItem::Entity(EntityType::Memory(_)) => missing == Missing::Memory,
-        ExportedItem::Entity(EntityType::Function(_)) => {
-            missing == Missing::Realloc && name == "cabi_realloc"
-        }
-        _ => false,
+        ExportedItem::Entity(entity) => could_be(missing, name, *entity),
+        ExportedItem::Tag => false,
     }
 }
 

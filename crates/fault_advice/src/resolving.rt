@@ -91,10 +91,7 @@ fn with_names(
 
 /// The resolve of a world with merged versions.
 #[tactic(auto, using(crate::proofs::Resolvable::never_whole))]
-fn resolved_merged(
-    alloc: Global,
-    merged: &MergedVersions,
-) -> Result<Option<SoundWorld>, AllocError>
+fn resolved_merged(alloc: Global, merged: &MergedVersions) -> Result<Option<SoundWorld>, AllocError>
     ensures { (w : World) → IsMergedBy w (Some merged.now) → IfOk result (IsResolvedBy w) }
 {
     match whole_of(alloc, &merged.wit)? {

@@ -175,10 +175,22 @@ fn required_text(
 
 // ---- exports
 
+fn is_plain_memory(role: PlainExport) -> bool
+    ensures { result ≡ spec.is_plain_memory role }
+{
+    match role {
+        PlainExport::Memory => true,
+        _ => false,
+    }
+}
+
 fn is_memory(role: &ExportRole) -> bool
     ensures { result ≡ spec.is_memory role.now }
 {
-    matches!(role, ExportRole::Plain(PlainExport::Memory))
+    match role {
+        ExportRole::Plain(plain) => is_plain_memory(*plain),
+        _ => false,
+    }
 }
 
 fn export_of(
@@ -468,13 +480,23 @@ fn put_in(
 // ---- where the types agree
 
 /// Whether a role is for a function that is called after another one, or continues it.
+fn belongs_role(role: &ExportRole) -> bool
+    ensures { result ≡ spec.belongs_role role.now }
+{
+    match role {
+        ExportRole::PostReturn { .. } => true,
+        ExportRole::Callback { .. } => true,
+        _ => false,
+    }
+}
+
 fn belongs(role: Option<&ExportRole>) -> bool
     ensures { result ≡ spec.belongs (option_copied role.entry) }
 {
-    matches!(
-        role,
-        Some(ExportRole::PostReturn { .. } | ExportRole::Callback { .. })
-    )
+    match role {
+        Some(role) => belongs_role(role),
+        None => false,
+    }
 }
 
 fn put_idle_lines(out: &mut String, one: &Known, name: &Text) -> Result<(), AllocError>

@@ -1,7 +1,6 @@
 //! Why words are not those of the program.
 
-ghost use Rattle.std.specs.Prelude.{◌≡◌, ◌++◌, map, find, option_map, string_bytes, IfOk, OnOk};
-ghost use Rattle.fault_advice.specs.Lines.{about, named_line};
+ghost use Rattle.std.specs.Prelude.{◌≡◌, ◌≤◌, ◌++◌, length, map, string_bytes, IfOk, OnOk};
 ghost use Rattle.fault_advice.specs.Words as spec;
 
 use crate::lines::{put_about, put_named};
@@ -136,6 +135,15 @@ fn put_no_option(out: &mut String, command: &str, word: &str) -> Result<(), Allo
     Ok(())
 }
 
+fn begins_with_hyphen(word: &str) -> bool
+    ensures { result ≡ spec.begins_with_hyphen word.now }
+{
+    match word.as_bytes() {
+        [] => false,
+        [first, _rest @ ..] => *first == 45,
+    }
+}
+
 /// A word that stands where none can: an option that is there twice, one of another command, or a further name.
 fn put_spare(out: &mut String, command: &str, word: &str) -> Result<(), AllocError>
     ensures { OnOk result (string_bytes out.new
@@ -147,10 +155,10 @@ fn put_spare(out: &mut String, command: &str, word: &str) -> Result<(), AllocErr
     if is_option(command, word) || is_taken(command, word) {
         return put_named(out, "  ", word, " is there twice");
     }
-    if word.starts_with('-') {
+    if begins_with_hyphen(word) {
         return put_no_option(out, command, word);
     }
-    put_named(out, "  ", word, " is one word too many")
+    put_too_many(out, word)
 }
 
 /// The first of the words behind the names of files that is wrong.
@@ -183,29 +191,83 @@ fn put_options(out: &mut String, command: &str, words: &[String]) -> Result<(), 
     }
 }
 
-/// The words behind a command, where there are enough.
-fn put_behind(out: &mut String, command: &str, words: &[String]) -> Result<(), AllocError>
+fn put_too_many(out: &mut String, word: &str) -> Result<(), AllocError>
+    ensures { OnOk result (string_bytes out.new ≡ string_bytes out.old ++ spec.too_many word.now) }
+{
+    put_named(out, "  ", word, " is one word too many")
+}
+
+/// The words behind `explain`: a code that is known is no mistake.
+fn put_explain(out: &mut String, words: &[String]) -> Result<(), AllocError>
     ensures { OnOk result (string_bytes out.new
-        ≡ string_bytes out.old ++ spec.behind command.now (map string_bytes words.now)) }
+        ≡ string_bytes out.old ++ spec.behind_explain (map string_bytes words.now)) }
 {
     match words {
-        [code] if command == "explain" => {
-            put_named(
+        [] => Ok(()),
+        [code, more @ ..] => match more {
+            [] => put_named(
                 out,
                 "  ",
                 code.as_str(),
                 " is no code that the program prints",
-            )
-        }
-        [_file, _form, word, _more @ ..] if command == "links" => {
-            put_named(out, "  ", word.as_str(), " is one word too many")
-        }
-        [_first, _second, more @ ..] if count_of(command) == Some(2) => put_options(
-            out, command, more,
-        ),
-        [_first, more @ ..] if count_of(command) == Some(1) => put_options(out, command, more),
-        more => put_options(out, command, more),
+            ),
+            [word, _rest @ ..] => put_too_many(out, word.as_str()),
+        },
     }
+}
+
+/// The words behind the file of `links`, which takes one option.
+fn put_form(out: &mut String, words: &[String]) -> Result<(), AllocError>
+    ensures { OnOk result (string_bytes out.new
+        ≡ string_bytes out.old ++ spec.behind_file (map string_bytes words.now)) }
+{
+    match words {
+        [] => Ok(()),
+        [_form, more @ ..] => match more {
+            [] => put_options(out, "links", words),
+            [word, _rest @ ..] => put_too_many(out, word.as_str()),
+        },
+    }
+}
+
+fn put_links(out: &mut String, words: &[String]) -> Result<(), AllocError>
+    ensures { OnOk result (string_bytes out.new
+        ≡ string_bytes out.old ++ spec.behind_links (map string_bytes words.now)) }
+{
+    match words {
+        [] => Ok(()),
+        [_file, more @ ..] => put_form(out, more),
+    }
+}
+
+/// The words behind a command, where there are enough.
+fn put_behind(
+    out: &mut String,
+    command: &str,
+    count: usize,
+    words: &[String],
+) -> Result<(), AllocError>
+    requires { count ≤ length words.now }
+    ensures { OnOk result (string_bytes out.new
+        ≡ string_bytes out.old ++ spec.behind command.now count (map string_bytes words.now)) }
+{
+    if command == "explain" {
+        return put_explain(out, words);
+    }
+    if command == "links" {
+        return put_links(out, words);
+    }
+    put_options(out, command, &words[count..])
+}
+
+fn put_no_command(out: &mut String, command: &str) -> Result<(), AllocError>
+    ensures { OnOk result (string_bytes out.new
+        ≡ string_bytes out.old ++ spec.no_command command.now) }
+{
+    put_about(out, "  ", command)?;
+    out.push_str(" is no command")?;
+    put_word_end(out, COMMANDS, command)?;
+    Ok(())
 }
 
 /// A command, and the words behind it.
@@ -214,14 +276,12 @@ fn put_command(out: &mut String, command: &str, words: &[String]) -> Result<(), 
         ≡ string_bytes out.old ++ spec.commanded command.now (map string_bytes words.now)) }
 {
     let Some(count) = count_of(command) else {
-        put_about(out, "  ", command)?;
-        out.push_str(" is no command")?;
-        return put_word_end(out, COMMANDS, command);
+        return put_no_command(out, command);
     };
     if words.len() < count {
         return put_named(out, "  ", command, taken_by(command));
     }
-    put_behind(out, command, words)
+    put_behind(out, command, count, words)
 }
 
 fn put_words(out: &mut String, words: &[String]) -> Result<(), AllocError>

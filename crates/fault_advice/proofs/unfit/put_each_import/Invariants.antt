@@ -7,4 +7,4 @@ abbrev pub invariant-loop-import : goal.invariant-loop-import
 invariant-loop-import l =
     (string_bytes l.out ≡ string_bytes l.fn.out)
     × (first_text (named_import l.known l.one l.core l.targets l.name) (drop l.import-index l.core.imports)
-      ≡ first_text (named_import l.known l.one l.core l.targets l.name) l.core.imports)
+    ≡ first_text (named_import l.known l.one l.core l.targets l.name) l.core.imports)
