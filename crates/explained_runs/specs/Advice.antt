@@ -1,6 +1,6 @@
 -- What is said of the fault of a run, by its words and the modules that were read. (The program's own; the lines are those of
 -- `fault_advice`. Behind those of a fault with a code stands where more is to be read.)
-use Rattle.std.specs.Prelude.{◌≡◌, ◌⊎◌, ℕ, List, [], ◌∷◌, ◌++◌, Option, Some, None, Result, Ok, Err, ⊤, if◌then◌else◌}
+use Rattle.std.specs.Prelude.{◌≡◌, ◌≢◌, ◌⊎◌, ℕ, List, [], ◌∷◌, ◌++◌, Option, Some, None, Result, Ok, Err, ⊤}
 use Rattle.command_line.specs.declared.fault.RunFault.{RunFault}
 use Rattle.command_line.specs.declared.fault.RunFault.TheVariants as faults
 use Rattle.comp_check.specs.declared.fault.CheckFault.{CheckFault}
@@ -14,7 +14,8 @@ use Rattle.fault_advice.specs.declared.given.Given.{Given}
 use Rattle.fault_advice.specs.declared.places.Missing.TheVariants as missing
 use Rattle.fitted_modules.specs.declared.fault.ModulesFault.{ModulesFault}
 use Rattle.fitted_modules.specs.declared.fault.ModulesFault.TheVariants as fits
-use Rattle.module_warnings.specs.Linting.{all_warnings}
+use Rattle.fitted_modules.specs.declared.modules.Modules.{Modules}
+use Rattle.module_warnings.specs.Linting.{listed, all_warnings, IsCaused}
 use Rattle.module_warnings.specs.declared.fault.LintFault.{LintFault}
 use Rattle.module_warnings.specs.declared.fault.LintFault.TheVariants as lints
 use Rattle.name_warnings.specs.Lines.{shown}
@@ -83,6 +84,15 @@ abbrev pub IsNeeded : List (List ℕ) → List Given → Result ⊤ (RunFault Lo
 IsNeeded words given (Ok x) text = text ≡ []
 IsNeeded words given (Err f) text = IsAdvice words given f text
 
+-- what modules say can't be read
+pub record IsUnread (m : Modules) : Type 0 where
+  pub fault : LintFault
+  pub caused : IsCaused (listed m) fault
+  pub known : fault ≢ lints.Memory
+
+abbrev pub WarnsOf : Modules → List ℕ → Type 0
+WarnsOf m text = (text ≡ shown (all_warnings m)) ⊎ ((text ≡ []) × IsUnread m)
+
 -- the warnings of modules; none where nothing was read, or where what they say can't be read
 abbrev pub IsWarning : List Given → List ℕ → Type 0
-IsWarning given text = (text ≡ []) ⊎ elim (modules_of given) [ None ↦ ⊥ | Some m ↦ text ≡ shown (all_warnings m) ]
+IsWarning given text = elim (modules_of given) [ None ↦ text ≡ [] | Some m ↦ WarnsOf m text ]

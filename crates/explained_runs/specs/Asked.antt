@@ -1,6 +1,6 @@
 -- What words ask for beside a run, and the words of that: those without the first `--explain` and, where `new` is their first, without
 -- the first `--lint`. (The program's own: its command line.)
-use Rattle.std.specs.Prelude.{ℕ, ◌+◌, Bool, false, is_some, List, [], ◌∷◌, drop, remove, codes, Option, Some, None, if◌then◌else◌}
+use Rattle.std.specs.Prelude.{ℕ, ◌+◌, Bool, false, ◌||◌, is_some, List, [], ◌∷◌, drop, remove, codes, Option, Some, None, if◌then◌else◌}
 use Rattle.std.specs.Str.{bytes_eq}
 use Rattle.explained_runs.specs.declared.asked.Asked.{Asked}
 
@@ -34,3 +34,7 @@ asked words = record { explains = has_word 0 (codes "--explain") words; lints = 
 
 abbrev pub run_words : List (List ℕ) → List (List ℕ)
 run_words words = without_lint (without 0 (codes "--explain") words)
+
+-- whether anything is asked for
+abbrev pub is_any : Asked → Bool
+is_any a = a.explains || a.lints

@@ -1,5 +1,5 @@
 -- A run that says more than its fault. (The program's own; a run is that of `command_line` on the words that are left.)
-use Rattle.std.specs.Prelude.{◌≡◌, ◌⊎◌, ℕ, Bool, true, false, ◌||◌, List, [], ◌++◌, ⊤, Option, Some, None, Result, filter_map}
+use Rattle.std.specs.Prelude.{◌≡◌, ◌⊎◌, ℕ, Bool, true, false, List, [], ◌++◌, codes, ⊤, Option, Some, None, Result, filter_map}
 use Rattle.comp_worlds.specs.declared.lower.Lower as lower
 use Rattle.command_line.specs.Adapters.{adapter_of, adapter_words}
 use Rattle.command_line.specs.Messages.{Says, IsNotTextLine, memory_line}
@@ -11,7 +11,7 @@ use Rattle.fault_advice.specs.declared.given.Given.{Given}
 use Rattle.package_lower.specs.declared.fault.LowerFault.{LowerFault}
 use Rattle.package_lower.specs.declared.lower.PackageLower.{PackageLower}
 use Rattle.explained_runs.specs.Advice.{IsNeeded, IsWarning}
-use Rattle.explained_runs.specs.Asked.{asked, run_words}
+use Rattle.explained_runs.specs.Asked.{asked, is_any, run_words}
 use Rattle.explained_runs.specs.Modules.{given_of}
 use Rattle.explained_runs.specs.declared.asked.Asked.{Asked}
 use Rattle.explained_runs.specs.declared.kept.KeptFile.{KeptFile}
@@ -33,9 +33,17 @@ pub record IsMore (a : Asked) (words : List (List ℕ)) (files : List KeptFile) 
   pub is_warnings : IfAsked a.lints (IsWarning (modules_by words files)) warnings
   pub is : text ≡ advice ++ warnings
 
--- that was said, or nothing: where neither is asked for, or there was no memory for it
+-- that, or that there is no memory for it
+abbrev pub IsMoreOr : Asked → List (List ℕ) → List KeptFile → Result ⊤ (RunFault LowerFault) → List ℕ → Type 0
+IsMoreOr a words files ended text = IsMore a words files ended text ⊎ (text ≡ codes "  there is no memory to say more\n")
+
+abbrev pub SaysIf : Bool → (List ℕ → Type 0) → Option (List ℕ) → Option (List ℕ) → Type 0
+SaysIf true IsText before after = Says before after IsText
+SaysIf false IsText before after = after ≡ before
+
+-- it was said where anything is asked for, and else nothing
 abbrev pub SaysMore : Asked → List (List ℕ) → List KeptFile → Result ⊤ (RunFault LowerFault) → Option (List ℕ) → Option (List ℕ) → Type 0
-SaysMore a words files ended before after = (after ≡ before) ⊎ (((a.explains || a.lints) ≡ true) × Says before after (IsMore a words files ended))
+SaysMore a words files ended before after = SaysIf (is_any a) (IsMoreOr a words files ended) before after
 
 abbrev pub fresh : PackageLower
 fresh = record { reject_legacy_names = false }

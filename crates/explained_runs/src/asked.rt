@@ -12,6 +12,15 @@ pub(crate) struct Asked {
     pub lints: bool,
 }
 
+impl Asked {
+    /// Whether anything is asked for.
+    pub(crate) fn is_any(self) -> bool
+        ensures { result ≡ spec.is_any self }
+    {
+        self.explains || self.lints
+    }
+}
+
 /// The position of a word, from this one on.
 fn position_of(words: &[String], from: usize, word: &str) -> Option<usize>
     ensures first { result ≡ spec.position_of from word.now (map string_bytes words.now) }

@@ -3,9 +3,10 @@
 ghost use Rattle.std.specs.Prelude.{◌≡◌, ◌≢◌, map, string_bytes, IfOk};
 ghost use Rattle.atomic_files.specs.Files.{Known};
 ghost use Rattle.atomic_files.specs.Steps.{Kept as KeptFiles};
+ghost use Rattle.command_line.specs.Messages.{Says};
 ghost use Rattle.command_line.specs.Starting.{first_not_text};
 ghost use Rattle.explained_runs.specs.Advice.{IsNeeded, IsWarning};
-ghost use Rattle.explained_runs.specs.Runs.{IfAsked, IsMore, RanBeside, StartedBeside, SaysMore, fresh};
+ghost use Rattle.explained_runs.specs.Runs.{IfAsked, IsMore, IsMoreOr, RanBeside, StartedBeside, SaysMore, fresh};
 
 use crate::advice::advice_of;
 use crate::asked::{Asked, take_asked};
@@ -19,10 +20,13 @@ use command_line::{
 use comp_lists::Seq;
 use comp_worlds::Lower;
 use fault_advice::Given;
-use module_warnings::warnings_text;
+use module_warnings::{LintFault, warnings_text};
 use package_lower::{LowerFault, PackageLower};
 use std::alloc::{AllocError, Global};
 use std::io::Write;
+
+/// What is said where there is no memory for more.
+const NO_MEMORY: &[u8] = b"  there is no memory to say more\n";
 
 /// The warnings of modules, where all that they say can be read.
 fn warnings_of(alloc: Global, given: &[Given]) -> Result<String, AllocError>
@@ -33,6 +37,7 @@ fn warnings_of(alloc: Global, given: &[Given]) -> Result<String, AllocError>
     };
     match warnings_text(alloc, modules) {
         Ok(text) => Ok(text),
+        Err(LintFault::Memory) => Err(AllocError),
         Err(_) => Ok(String::new(alloc)),
     }
 }
@@ -102,8 +107,27 @@ fn more_of<R: Reasons>(
     Ok(more)
 }
 
-/// Says what is asked for beside a run; nothing where there is no memory for it.
-#[tactic(auto, using(crate::proofs::Saying::said_more))]
+/// Says what is asked for beside a run, or that there is no memory for it.
+#[tactic(auto, using(crate::proofs::Saying::said_more, crate::proofs::Saying::said_less))]
+fn say_asked<R: Reasons, E: Write>(
+    alloc: Global,
+    asked: Asked,
+    words: &[String],
+    files: Seq<KeptFile>,
+    reasons: &mut R,
+    done: &Result<(), RunFault<LowerFault>>,
+    err: &mut E,
+)
+    ensures { Says (E.contents err.old) (E.contents err.new)
+        (IsMoreOr asked (map string_bytes words.now) files done.now) }
+{
+    match more_of(alloc, asked, words, files, reasons, done) {
+        Ok(text) => say(err, text.as_bytes()),
+        Err(_) => say(err, NO_MEMORY),
+    }
+}
+
+/// Says it where anything is asked for.
 fn say_more<R: Reasons, E: Write>(
     alloc: Global,
     asked: Asked,
@@ -116,12 +140,8 @@ fn say_more<R: Reasons, E: Write>(
     ensures { SaysMore asked (map string_bytes words.now) files done.now (E.contents err.old)
         (E.contents err.new) }
 {
-    if !asked.explains && !asked.lints {
-        return;
-    }
-    match more_of(alloc, asked, words, files, reasons, done) {
-        Ok(text) => say(err, text.as_bytes()),
-        Err(_) => {}
+    if asked.is_any() {
+        say_asked(alloc, asked, words, files, reasons, done, err);
     }
 }
 
@@ -142,7 +162,7 @@ fn run_asked<S: Store, R: Reasons, W: Write, E: Write>(
 {
     let mut words = words;
     let asked = take_asked(&mut words);
-    store.keep(asked.explains || asked.lints);
+    store.keep(asked.is_any());
     let done = perform(alloc, PackageLower::new(), &words, store, out);
     report(alloc, err, is_listing(&words), &done);
     let files = store.take_files();
