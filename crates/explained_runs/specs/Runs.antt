@@ -1,5 +1,5 @@
 -- A run that says more than its fault. (The program's own; a run is that of `command_line` on the words that are left.)
-use Rattle.std.specs.Prelude.{◌≡◌, ◌⊎◌, ℕ, Bool, true, false, List, [], ◌++◌, codes, ⊤, Option, Some, None, Result, filter_map}
+use Rattle.std.specs.Prelude.{◌≡◌, ◌⊎◌, ℕ, Bool, true, false, List, [], ◌++◌, codes, ⊤, Option, Some, None, Result, Ok, Err, filter_map}
 use Rattle.comp_worlds.specs.declared.lower.Lower as lower
 use Rattle.command_line.specs.Adapters.{adapter_of, adapter_words}
 use Rattle.command_line.specs.Messages.{Says, IsNotTextLine, memory_line}
@@ -44,6 +44,11 @@ SaysIf false IsText before after = after ≡ before
 -- it was said where anything is asked for, and else nothing
 abbrev pub SaysMore : Asked → List (List ℕ) → List KeptFile → Result ⊤ (RunFault LowerFault) → Option (List ℕ) → Option (List ℕ) → Type 0
 SaysMore a words files ended before after = SaysIf (is_any a) (IsMoreOr a words files ended) before after
+
+-- what was kept, unless there was no memory for some of it
+abbrev pub kept_in : {E : Type 0} → Result (List KeptFile) E → List KeptFile
+kept_in (Ok files) = files
+kept_in (Err e) = []
 
 abbrev pub fresh : PackageLower
 fresh = record { reject_legacy_names = false }

@@ -6,7 +6,7 @@ ghost use Rattle.atomic_files.specs.Steps.{Kept as KeptFiles};
 ghost use Rattle.command_line.specs.Messages.{Says};
 ghost use Rattle.command_line.specs.Starting.{first_not_text};
 ghost use Rattle.explained_runs.specs.Advice.{IsNeeded, IsWarning};
-ghost use Rattle.explained_runs.specs.Runs.{IfAsked, IsMore, IsMoreOr, RanBeside, StartedBeside, SaysMore, fresh};
+ghost use Rattle.explained_runs.specs.Runs.{IfAsked, IsMore, IsMoreOr, RanBeside, StartedBeside, SaysMore, fresh, kept_in};
 
 use crate::advice::advice_of;
 use crate::asked::{Asked, take_asked};
@@ -92,15 +92,16 @@ fn more_of<R: Reasons>(
     alloc: Global,
     asked: Asked,
     words: &[String],
-    files: Seq<KeptFile>,
+    files: Result<Seq<KeptFile>, AllocError>,
     reasons: &mut R,
     done: &Result<(), RunFault<LowerFault>>,
 ) -> Result<String, AllocError>
-    ensures { IfOk result
-        (λ text. IsMore asked (map string_bytes words.now) files done.now (string_bytes text)) }
+    ensures { IfOk result (λ text.
+        IsMore asked (map string_bytes words.now) (kept_in files) done.now (string_bytes text)) }
 {
+    let kept = files?;
     let named = adapters(alloc, words)?;
-    let given = given_of(alloc, files, named.as_slice())?;
+    let given = given_of(alloc, kept, named.as_slice())?;
     let warnings = warnings_if(alloc, asked, given.as_slice())?;
     let mut more = needed_if(alloc, asked, words, given, reasons, done)?;
     more.push_str(warnings.as_str())?;
@@ -113,13 +114,13 @@ fn say_asked<R: Reasons, E: Write>(
     alloc: Global,
     asked: Asked,
     words: &[String],
-    files: Seq<KeptFile>,
+    files: Result<Seq<KeptFile>, AllocError>,
     reasons: &mut R,
     done: &Result<(), RunFault<LowerFault>>,
     err: &mut E,
 )
     ensures { Says (E.contents err.old) (E.contents err.new)
-        (IsMoreOr asked (map string_bytes words.now) files done.now) }
+        (IsMoreOr asked (map string_bytes words.now) (kept_in files) done.now) }
 {
     match more_of(alloc, asked, words, files, reasons, done) {
         Ok(text) => say(err, text.as_bytes()),
@@ -132,12 +133,12 @@ fn say_more<R: Reasons, E: Write>(
     alloc: Global,
     asked: Asked,
     words: &[String],
-    files: Seq<KeptFile>,
+    files: Result<Seq<KeptFile>, AllocError>,
     reasons: &mut R,
     done: &Result<(), RunFault<LowerFault>>,
     err: &mut E,
 )
-    ensures { SaysMore asked (map string_bytes words.now) files done.now (E.contents err.old)
+    ensures { SaysMore asked (map string_bytes words.now) (kept_in files) done.now (E.contents err.old)
         (E.contents err.new) }
 {
     if asked.is_any() {

@@ -100,8 +100,24 @@ fn arguments_of(alloc: Global, input: &str) -> Result<Vec<Vec<u8>>, AllocError> 
 
 // ---- answers
 
+/// Whether a text says that memory was refused.
+fn lacks_memory(text: &str) -> bool {
+    for line in text.split("\n") {
+        if line == "error: E1 Memory"
+            || line == "error: C1 Memory"
+            || line == "  there is no memory to say more"
+        {
+            return true;
+        }
+    }
+    false
+}
+
 /// An exit status, and the lines of a text with ` ; ` between two of them.
 fn joined(alloc: Global, status: u8, text: &str) -> Result<String, AllocError> {
+    if lacks_memory(text) {
+        return Err(AllocError);
+    }
     let mut answer = format!(in alloc; "{status}")?;
     for line in text.split("\n") {
         if !line.is_empty() {
