@@ -66,6 +66,21 @@ expect 'a quote in a name' 1 'error: read "a\"b"' new kept.wasm 'a"b'
 expect 'a MAIN of no bytes' 1 'error: E3 Lower: P2 NotModule' new kept.wasm nothing.wasm
 expect 'a cut preamble' 1 'error: E3 Lower: P2 NotModule' new kept.wasm cut.wasm
 expect 'no arguments' 2 "$usage"
+# What the system says of files, below the line of the fault.
+expect 'no such MAIN, explained' 1 'error: read "none.wasm"
+  there is no file of this name' new kept.wasm none.wasm --explain
+expect 'a MAIN that is a folder, explained' 1 'error: read "."
+  it is a folder' --explain new kept.wasm .
+expect 'a MAIN below a file, explained' 1 'error: read "main.wasm/main.wasm"
+  a part of the path in front of the name is no folder' new kept.wasm main.wasm/main.wasm --explain
+expect 'no such folder of OUT, explained' 1 "error: write \"none/made.wasm\"
+  the folder that it is to be in isn't there" new none/made.wasm main.wasm --explain
+expect 'an OUT that is a folder, explained' 1 'error: write "."
+  it is a folder' new . main.wasm --explain
+expect 'nothing to explain' 0 '' new made.wasm main.wasm --explain
+holds 'its component' made.wasm "$top/examples/component.wasm"
+expect 'a warning beside a component' 0 'L10 NoRecord "main"' new made.wasm empty.wasm --lint
+holds 'its component' made.wasm empty_want
 expect 'no MAIN' 2 "$usage" new kept.wasm
 expect 'a flag that is not there' 2 "$usage" new kept.wasm main.wasm --ref
 expect 'another command' 2 "$usage" old kept.wasm main.wasm
@@ -207,6 +222,8 @@ usage: component_new new OUT MAIN [options] | lint MAIN [options] | record OUT M
   --adapt NAME=FILE  new, lint: add the adapter in FILE under this name; any number of times
   --canonical        new: have the canonical part of versions in names, and the rest as suffixes
   --dot, --mermaid   links: print a graph, in the language of Graphviz or of Mermaid
+  --explain          print below the line of a fault what is needed to mend it
+  --lint             new: print the warnings that `lint` has
   --no-merge         new: don't merge imports of compatible versions
   --no-names         new: don't name the functions of the core modules that are generated
   --validate         new: check the names of the component's imports and exports

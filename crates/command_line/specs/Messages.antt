@@ -19,6 +19,7 @@ abbrev pub option_lines : List ℕ
 option_lines =
     codes "  --adapt NAME=FILE  new, lint: add the adapter in FILE under this name; any number of times\n"
     ++ codes "  --canonical        new: have the canonical part of versions in names, and the rest as suffixes\n" ++ codes "  --dot, --mermaid   links: print a graph, in the language of Graphviz or of Mermaid\n"
+    ++ codes "  --explain          print below the line of a fault what is needed to mend it\n" ++ codes "  --lint             new: print the warnings that `lint` has\n"
     ++ codes "  --no-merge         new: don't merge imports of compatible versions\n"
     ++ codes "  --no-names         new: don't name the functions of the core modules that are generated\n" ++ codes "  --validate         new: check the names of the component's imports and exports\n"
     ++ codes "  -h, --help         print this text\n" ++ codes "  --version          print the version of the program, and the logic that it is proved with\n"

@@ -9,7 +9,7 @@ use std::alloc::{AllocError, Global};
 
 /// An adapter: its name, and the file that it is in.
 #[derive(Drop)]
-pub(crate) struct Adapter {
+pub struct Adapter {
     pub name: Text,
     pub file: Text,
 }
@@ -53,7 +53,7 @@ fn add_adapter(alloc: Global, adapters: &mut Seq<Adapter>, word: &str) -> Result
 }
 
 /// The adapters that the words behind `--adapt` name, in order.
-pub(crate) fn adapters(alloc: Global, words: &[String]) -> Result<Seq<Adapter>, AllocError>
+pub fn adapters(alloc: Global, words: &[String]) -> Result<Seq<Adapter>, AllocError>
     ensures { IfOk result
         (λ a. a ≡ filter_map adapter_of (adapter_words (map string_bytes words.now))) }
 {

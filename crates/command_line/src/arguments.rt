@@ -343,7 +343,7 @@ fn lists_others(words: &[String]) -> bool
 }
 
 /// Whether the words ask for the definitions of a component.
-pub(crate) fn is_listing(words: &[String]) -> bool
+pub fn is_listing(words: &[String]) -> bool
     ensures { result ≡ is_listing (request_of (map string_bytes words.now)) }
 {
     lists_others(words)

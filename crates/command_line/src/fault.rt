@@ -15,7 +15,7 @@ use std::io::{self, ErrorKind};
 
 /// Why a run fails; `F` are the faults of the lower layer.
 #[derive(Drop)]
-pub(crate) enum RunFault<F> {
+pub enum RunFault<F> {
     /// The arguments are not those of the program.
     Usage,
     /// The module's file can't be read.

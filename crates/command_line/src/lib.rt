@@ -33,8 +33,11 @@ mod starting;
 mod store;
 mod stored;
 
-pub use messages::{MEMORY, say};
-pub use running::run_with;
-pub use starting::start_with;
+pub use adapters::{Adapter, adapters};
+pub use arguments::is_listing;
+pub use fault::RunFault;
+pub use messages::{MEMORY, say, say_not_text};
+pub use running::{perform, report, run_with, status_of};
+pub use starting::{WordsFault, words_of};
 pub use store::{Event, Store, StoreFault};
 pub use stored::Stored;

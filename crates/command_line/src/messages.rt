@@ -22,6 +22,8 @@ pub(crate) const HELP: &[u8] =
     \x20 --adapt NAME=FILE  new, lint: add the adapter in FILE under this name; any number of times\n\
     \x20 --canonical        new: have the canonical part of versions in names, and the rest as suffixes\n\
     \x20 --dot, --mermaid   links: print a graph, in the language of Graphviz or of Mermaid\n\
+    \x20 --explain          print below the line of a fault what is needed to mend it\n\
+    \x20 --lint             new: print the warnings that `lint` has\n\
     \x20 --no-merge         new: don't merge imports of compatible versions\n\
     \x20 --no-names         new: don't name the functions of the core modules that are generated\n\
     \x20 --validate         new: check the names of the component's imports and exports\n\
@@ -94,7 +96,7 @@ fn not_text_line(alloc: Global, number: usize) -> Result<String, AllocError>
 
 /// Writes a front of the line for an argument that is not UTF-8, or of the line that reports out of
 /// memory, where there was no memory for the line.
-pub(crate) fn say_not_text<W: Write>(alloc: Global, writer: &mut W, number: usize)
+pub fn say_not_text<W: Write>(alloc: Global, writer: &mut W, number: usize)
     ensures { Says (W.contents writer.old) (W.contents writer.new) (IsNotTextLine number) }
 {
     match not_text_line(alloc, number) {

@@ -23,7 +23,7 @@ use std::fmt::Display;
 use std::io::Write;
 
 /// Does what the words after the program's name ask for.
-fn perform<L: Lower + Drop, S: Store, W: Write>(
+pub fn perform<L: Lower + Drop, S: Store, W: Write>(
     alloc: Global,
     lower: L,
     words: &[String],
@@ -49,7 +49,7 @@ fn perform<L: Lower + Drop, S: Store, W: Write>(
 }
 
 /// Reports how a run ended: nothing on success, a line on a failure.
-fn report<W: Write, F: Display>(
+pub fn report<W: Write, F: Display>(
     alloc: Global,
     writer: &mut W,
     listing: bool,
@@ -65,7 +65,7 @@ fn report<W: Write, F: Display>(
 }
 
 /// The exit status: 0 after success, 2 where the arguments are wrong, otherwise 1.
-fn status_of<F>(done: &Result<(), RunFault<F>>) -> u8
+pub fn status_of<F>(done: &Result<(), RunFault<F>>) -> u8
     ensures { result ≡ status_of done.now }
 {
     match done {

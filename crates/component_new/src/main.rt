@@ -4,15 +4,19 @@
 //! `component_new new OUT MAIN [options]` reads the module from the file MAIN, and adapters from
 //! those that the options name, and puts their component into the file OUT. `component_new defs
 //! FILE` writes on standard output a line for each definition of the component in FILE, and
-//! `component_new explain CODE` what a code of a failure means. All of that is in the contract of
-//! `run`; `main` only passes it the system's arguments, streams and, in `files`, files.
+//! `component_new explain CODE` what a code of a failure means. With `--explain`, lines below that of a
+//! fault say what is needed to mend it. All of that is in the contract of `run`; `main` only passes it
+//! the system's arguments, streams and, in `files`, files, and, in `reasons`, why the system refuses one.
 #![tactic(auto)]
 
 mod files;
+mod reasons;
 mod running;
 
 use command_line::{MEMORY, Stored, say};
+use explained_runs::Kept;
 use files::Files;
+use reasons::Refusals;
 use running::run;
 use std::alloc::AllocError;
 use std::env::{Env, FillError};
@@ -53,8 +57,17 @@ fn main(rt: HostRuntime) -> ExitCode {
     let mut err = rt.stderr();
     match arguments(&rt) {
         Ok(arguments) => {
-            let mut store = Stored::new(rt.alloc(), Files::new(&rt));
-            let status = run(rt.alloc(), &arguments, &mut store, &mut out, &mut err);
+            let files = Stored::new(rt.alloc(), Files::new(&rt));
+            let mut store = Kept::new(rt.alloc(), files);
+            let mut refusals = Refusals::new(&rt);
+            let status = run(
+                rt.alloc(),
+                &arguments,
+                &mut store,
+                &mut refusals,
+                &mut out,
+                &mut err,
+            );
             ExitCode::from(status)
         }
         Err(_) => {

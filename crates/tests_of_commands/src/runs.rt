@@ -5,7 +5,8 @@ use crate::modules::{
     PACKAGE, SHIMMED, UNNAMED_COMPONENT,
 };
 use crate::store::{Files, Refusing};
-use command_line::{Event, StoreFault, run_with, start_with};
+use command_line::{Event, StoreFault, run_with};
+use explained_runs::{Kept, Reason, Reasons, start};
 use plain_lower::PlainLower;
 use std::alloc::{AllocError, Global};
 use std::io::ErrorKind;
@@ -367,6 +368,8 @@ fn help_and_version_are_printed(rt: HostRuntime) -> Result<(), Fail> {
         \x20 --adapt NAME=FILE  new, lint: add the adapter in FILE under this name; any number of times\n\
         \x20 --canonical        new: have the canonical part of versions in names, and the rest as suffixes\n\
         \x20 --dot, --mermaid   links: print a graph, in the language of Graphviz or of Mermaid\n\
+        \x20 --explain          print below the line of a fault what is needed to mend it\n\
+        \x20 --lint             new: print the warnings that `lint` has\n\
         \x20 --no-merge         new: don't merge imports of compatible versions\n\
         \x20 --no-names         new: don't name the functions of the core modules that are generated\n\
         \x20 --validate         new: check the names of the component's imports and exports\n\
@@ -396,26 +399,39 @@ fn a_code_is_explained(rt: HostRuntime) -> Result<(), Fail> {
     Ok(())
 }
 
-/// The status of a start with these arguments, and what it printed on standard error, where it printed nothing else and
-/// read and put nothing.
+/// Nothing that says why a file is refused.
+#[derive(Drop)]
+struct NoReasons {}
+
+impl Reasons for NoReasons {
+    fn of_read(&mut self, _name: &str) -> Reason {
+        Reason::Other
+    }
+
+    fn of_write(&mut self, _name: &str) -> Reason {
+        Reason::Other
+    }
+}
+
+/// The status of a start with these arguments, and what it printed on standard error, where it printed nothing else.
 fn started(alloc: Global, arguments: &[&[u8]]) -> Result<(u8, Vec<u8>), Fail> {
     let mut list = Vec::new(alloc);
     for argument in arguments {
         list.push(Vec::from_slice(alloc, argument)?)?;
     }
-    let mut store = Files::new(alloc, "main.wasm", MAIN)?;
+    let mut store = Kept::new(alloc, Files::new(alloc, "main.wasm", MAIN)?);
     let mut out = Vec::new(alloc);
     let mut err = Vec::new(alloc);
-    let status = start_with(
+    let status = start(
         alloc,
-        PlainLower::new(),
         &list,
         &mut store,
+        &mut NoReasons {},
         &mut out,
         &mut err,
     );
-    if !store.log.is_empty() || !out.is_empty() {
-        return Err(Fail::from("more than the arguments was read"));
+    if !out.is_empty() {
+        return Err(Fail::from("more than a line was printed"));
     }
     Ok((status, err))
 }

@@ -10,17 +10,19 @@
 //! records, and in the files `packages.txt` and `fitted.txt` over that by packages; or the fault. In
 //! `fitted.txt` the modules are fitted first (`fitted_modules`); in `packages.txt` the component is made
 //! once more with records in the place of packages (`recorded_modules`), and has to be the same. In `warnings.txt` the answer
-//! is the warnings of the modules (`module_warnings`), with ` ; ` between two of them. `test_cases` says how the files are
-//! read; each says where its expected answers are from.
+//! is the warnings of the modules (`module_warnings`), with ` ; ` between two of them. In `mistakes.txt` the input is the words of
+//! the program, and behind each ` | ` a file as `NAME = MODULE`; the answer is the exit status, and the lines that are printed on
+//! standard error (`explained_runs`). `test_cases` says how the files are read; each says where its expected answers are from.
 //!
 //! In reading order: `inputs` (the modules and options of inputs), `components` (their components),
 //! `fitted` (those of modules that are fitted), `recorded` (those of modules with records in the place
-//! of packages), `warnings`.
+//! of packages), `warnings`, `mistakes` (runs on what is wrong).
 #![tactic(auto)]
 
 mod components;
 mod fitted;
 mod inputs;
+mod mistakes;
 mod recorded;
 mod warnings;
 
@@ -37,6 +39,7 @@ enum Modules {
     Packages,
     Fitted,
     Warned,
+    Mistaken,
 }
 
 impl Topic for Modules {
@@ -45,6 +48,7 @@ impl Topic for Modules {
             "packages.txt" => Some(Modules::Packages),
             "fitted.txt" => Some(Modules::Fitted),
             "warnings.txt" => Some(Modules::Warned),
+            "mistakes.txt" => Some(Modules::Mistaken),
             _ => Some(Modules::Records),
         }
     }
@@ -55,6 +59,7 @@ impl Topic for Modules {
             Modules::Packages => recorded::answer(alloc, input),
             Modules::Fitted => fitted::answer(alloc, input),
             Modules::Warned => warnings::answer(alloc, input),
+            Modules::Mistaken => mistakes::answer(alloc, input),
         }
     }
 }

@@ -1,0 +1,5 @@
+pub mod Asked
+pub mod Reasons
+pub mod Modules
+pub mod Advice
+pub mod Runs

@@ -1,0 +1,3 @@
+pub mod Adding
+mod Requiring
+mod Resolvable

@@ -1,0 +1,13 @@
+pub mod Lines
+pub mod Near
+pub mod Words
+pub mod Kinds
+pub mod Resolving
+pub mod Given
+pub mod Imports
+pub mod Exports
+pub mod Places
+pub mod Types
+pub mod Required
+pub mod Unfit
+pub mod Advice
